@@ -1,0 +1,4 @@
+pub mod Columns
+pub mod Sheets
+pub mod Passes
+pub mod Typed
