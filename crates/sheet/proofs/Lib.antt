@@ -1,6 +1,6 @@
 pub mod Names
 pub mod Extents
-pub mod Checks
+pub mod Checking
 pub mod Fills
 pub mod Whole
 pub mod Law

@@ -9,7 +9,6 @@ use Rattle.std.specs.declared.option.Option.the-variants.{Some, None}
 use Rattle.std.specs.declared.result.Result.{Result}
 use Rattle.std.specs.declared.result.Result.the-variants.{Ok, Err}
 use Rattle.terms.specs.declared.arc.Arc.{Arc}
-use Rattle.terms.specs.declared.fault.At.{At}
 use Rattle.terms.specs.declared.fault.NumberFault.{NumberFault}
 use Rattle.terms.specs.declared.fault.LineFault.{LineFault}
 use Rattle.terms.specs.declared.fault.LineFault.the-variants.{Field, WrongCount, Names}
@@ -27,11 +26,6 @@ abbrev pub filled : List (List ℕ) → List (List ℕ)
 filled [] = []
 filled ([] ∷ lines) = []
 filled ((b ∷ bs) ∷ lines) = (b ∷ bs) ∷ filled lines
-
--- a result with the number of the field or line that gave it at its fault
-abbrev pub placed : {X E : Type 0} → ℕ → Result X E → Result X (At E)
-placed k (Ok x) = Ok x
-placed k (Err e) = Err (record { number = k; fault = e })
 
 -- go on with the number of a line's k-th field, or stop at its fault
 abbrev pub inField : {X : Type 0} → ℕ → Result ℕ NumberFault → (ℕ → Result X LineFault) → Result X LineFault

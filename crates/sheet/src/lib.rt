@@ -1,5 +1,8 @@
-// Sheets: the arcs of a site as a person types them, one line of names and a line of values for each arc.
+// Sheets: the arcs of a site as a person types them, a line of names and then a line of values for each arc.
+mod check;
 pub mod columns;
+mod extent;
+mod fill;
 mod lines;
-mod row;
 pub mod read;
+mod row;

@@ -1,3 +1,4 @@
 pub mod Amounts
+pub mod Faults
 pub mod Refusals
 pub mod Slacks

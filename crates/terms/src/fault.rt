@@ -1,6 +1,7 @@
 // What can be wrong with a typed text, in three layers: a number, a line, a sheet. Each layer holds the one below it.
 ghost use mathlib.Core.Path.{_≡_};
 ghost use Rattle.terms.specs.declared.fault.LineFault.the-variants.{Field};
+ghost use Rattle.terms.specs.Faults.{placedAt};
 
 // Why a field is no number.
 #[derive(Clone, Copy, Debug, PartialEq, Eq)]
@@ -30,6 +31,16 @@ pub struct SheetFault {
 pub struct At<F> {
     pub number: usize,
     pub fault: F,
+}
+
+// A result with the number of its field or line at its fault.
+pub fn placed<T, F>(number: usize, result: Result<T, F>) -> Result<T, At<F>>
+    ensures { λ r. ⌜ r ≡ placedAt number result ⌝ }
+{
+    match result {
+        Ok(value) => Ok(value),
+        Err(fault) => Err(At { number, fault }),
+    }
 }
 
 pub impl From<At<NumberFault>> for LineFault as LineFaultFromNumber {

@@ -2,7 +2,7 @@ use lib.ListN.{drop}
 use Rattle.sheet.specs.Passes.{readable}
 use Rattle.sheet.specs.Sheets.{sheetLines}
 use Rattle.sheet.proofs.Fills.{Filling}
-use Rattle.sheet.proofs.read.fill.Given as given
+use Rattle.sheet.proofs.fill.fill.Given as given
 
 abbrev pub Inv-loop-line : given.InvT-loop-line
 Inv-loop-line l =

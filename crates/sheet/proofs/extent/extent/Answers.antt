@@ -3,7 +3,7 @@ use native.Mathlib.Omega.{arith}
 use lib.ListN.{length}
 use Rattle.sheet.specs.Sheets.{span, sheetLines}
 use Rattle.sheet.proofs.Extents.{sheet-span, lines-few}
-use Rattle.sheet.proofs.read.extent.Needs as need
+use Rattle.sheet.proofs.extent.extent.Needs as need
 
 pub add-lines : need.add-lines
 add-lines c =

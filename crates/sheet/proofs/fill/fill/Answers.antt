@@ -4,7 +4,7 @@ use lib.ListN.{drop}
 use Rattle.sheet.specs.Sheets.{sheetLines}
 use Rattle.sheet.specs.Passes.{readable, written}
 use Rattle.sheet.proofs.Fills.{Filling, arc-first, none-yet, one-more, full, filled-all}
-use Rattle.sheet.proofs.read.fill.Needs as need
+use Rattle.sheet.proofs.fill.fill.Needs as need
 
 pub loop-line-holds : need.loop-line-holds
 loop-line-holds c =

@@ -2,7 +2,7 @@ use mathlib.Core.Path.{_≡_}
 use Prim.Native.Nat.{_+_}
 use lib.ListN.{length}
 use Rattle.sheet.specs.Sheets.{sheetLines, span}
-use Rattle.sheet.proofs.read.extent.Given as given
+use Rattle.sheet.proofs.extent.extent.Given as given
 
 abbrev pub Inv-loop-line : given.InvT-loop-line
 Inv-loop-line l =

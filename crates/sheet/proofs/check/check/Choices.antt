@@ -1,6 +1,6 @@
 use Rattle.sheet.specs.Sheets.{sheetLines}
-use Rattle.sheet.proofs.Checks.{Reading}
-use Rattle.sheet.proofs.read.check.Given as given
+use Rattle.sheet.proofs.Checking.{Reading}
+use Rattle.sheet.proofs.check.check.Given as given
 
 abbrev pub Inv-loop-line : given.InvT-loop-line
 Inv-loop-line l =

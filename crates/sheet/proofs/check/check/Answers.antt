@@ -3,7 +3,7 @@ use native.Mathlib.Omega.{arith}
 use lib.ListN.{length}
 use Rattle.sheet.specs.Sheets.{sheetLines}
 use Rattle.sheet.proofs.Extents.{sheet-span, lines-few}
-use Rattle.sheet.proofs.read.check.Needs as need
+use Rattle.sheet.proofs.check.check.Needs as need
 
 pub add-k : need.add-k
 add-k c =
