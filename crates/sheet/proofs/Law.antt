@@ -1,28 +1,34 @@
 -- Arcs written out as a sheet are read back. Assumes nothing.
 use mathlib.Core.Path.{_≡_, refl, sym, ap, _∙_, subst}
+use mathlib.Core.Bool.{Bool, true, false, cond}
 use mathlib.Core.List.{List, [], _∷_, _++_, map, append-assoc}
 use Prim.Native.Nat.{ℕ, _+_, _-_, _≤_, _<_, min}
 use native.Mathlib.Omega.{arith}
+use lib.Dec.{ltb}
 use lib.ListN.{length, take, length-append, length-take, length-map}
 use Rattle.std.specs.declared.option.Option.the-variants.{Some, None}
 use Rattle.std.specs.declared.result.Result.{Result}
 use Rattle.std.specs.declared.result.Result.the-variants.{Ok, Err}
+use Rattle.std.specs.Vec.{made}
 use Rattle.std.specs.Written.{decimal}
 use Rattle.std.specs.shelf.Lists.{All, joined}
 use Rattle.terms.specs.Amounts.{far}
 use Rattle.terms.specs.declared.arc.Arc.{Arc}
+use Rattle.terms.specs.declared.fault.SheetFault.{SheetFault}
 use Rattle.terms.specs.declared.refusal.Refusal.{Refusal}
+use Rattle.terms.specs.declared.refusal.Refusal.the-variants.{TableShort}
 use Rattle.text.specs.Pieces.{linesOf, fieldsOf}
 use Rattle.text.specs.Numbers.{numberOf}
 use Rattle.std.proofs.shelf.Decimals.{decimal-some}
+use Rattle.std.proofs.shelf.Tests.{ltb-false}
 use Rattle.text.proofs.Back.{Without, without-append, without-from-lacks, piece-back, field-back, decimal-without, number-back}
 use Rattle.sheet.specs.declared.columns.Columns.{Columns}
 use Rattle.sheet.specs.declared.columns.Columns.the-variants.{FromToLeast, FromLeastTo, ToFromLeast, ToLeastFrom, LeastFromTo, LeastToFrom}
 use Rattle.sheet.specs.declared.read.Sheet.{Sheet}
 use Rattle.sheet.specs.Columns.{nameLine, columnsOf, arcOf}
-use Rattle.sheet.specs.Sheets.{rowOf, rowsOf, arcsOf, arcsUnder, inLine, andThese, inField, arcIn, filled, span, sheetLines, sheetOf, tableAfter, endOf, over}
+use Rattle.sheet.specs.Sheets.{rowOf, rowsOf, arcsOf, arcsUnder, inLine, andThese, inField, arcIn, filled, span, sheetLines, sheetOf, answered, tableAfter, endOf, over}
 use Rattle.sheet.specs.Typed.{lineOf, typedArc, typedSheet, Typable, Stops, ReadsBack}
-use Rattle.sheet.proofs.Whole.{accepted}
+use Rattle.sheet.proofs.Whole.{arcs-count, accepted}
 use Rattle.sheet.proofs.Fills.{room-for-all}
 
 -- the bytes of a line of three numbers, without byte 10
@@ -161,10 +167,27 @@ read-back bytes was order arcs after e s t room =
       ap (λ bs. tableAfter bs was) e ∙ typed .1 ∙ room-for-all arcs was room,
     )
 
+-- what is read fits the table and the text
+fits : (bytes : List ℕ) (was : List Arc) → made (sheetOf bytes (length was)) (λ sheet. (sheet .arcs ≤ length was) × (sheet .end ≤ length bytes))
+unfolding sheetOf
+fits bytes was = short (ltb (length was) (length (sheetLines bytes) - 1)) refl
+  where
+    P : Sheet → Type 0
+    P sheet = (sheet .arcs ≤ length was) × (sheet .end ≤ length bytes)
+
+    read : (r : Result (List Arc) SheetFault) → arcsOf (sheetLines bytes) ≡ r → length (sheetLines bytes) - 1 ≤ length was → made (answered bytes r) P
+    read (Ok arcs) e room = (omega (arith, arcs-count (sheetLines bytes) arcs e), omega arith)
+    read (Err fault) e room = tt
+
+    short : (b : Bool) → ltb (length was) (length (sheetLines bytes) - 1) ≡ b → made (cond b (Err TableShort) (answered bytes (arcsOf (sheetLines bytes)))) P
+    short true e = tt
+    short false e = read (arcsOf (sheetLines bytes)) refl (ltb-false _ _ e)
+
 -- what `read` promises, from its answer and its table
-pub promised : (bytes : List ℕ) (was left : List Arc) (r : Result Sheet Refusal) → r ≡ sheetOf bytes (length was) → left ≡ tableAfter bytes was → record { answer : r ≡ sheetOf bytes (length was); arcs : left ≡ tableAfter bytes was; back : ReadsBack bytes was r left }
+pub promised : (bytes : List ℕ) (was left : List Arc) (r : Result Sheet Refusal) → r ≡ sheetOf bytes (length was) → left ≡ tableAfter bytes was → record { answer : r ≡ sheetOf bytes (length was); arcs : left ≡ tableAfter bytes was; within : made r (λ sheet. (sheet .arcs ≤ length was) × (sheet .end ≤ length bytes)); back : ReadsBack bytes was r left }
 promised bytes was left r a b = record {
   answer = a;
   arcs = b;
+  within = subst (λ q. made q (λ sheet. (sheet .arcs ≤ length was) × (sheet .end ≤ length bytes))) (sym a) (fits bytes was);
   back = λ order arcs after e s t room. let known = read-back bytes was order arcs after e s t room in (a ∙ known .0, b ∙ known .1);
 }

@@ -34,7 +34,7 @@ rows-count order k (line ∷ lines) arcs e = first (rowOf order line) e (rows-co
     first (Ok arc) is so = rest arc (rowsOf order (k + 1) lines) refl is so
     first (Err f) is so = absurd (let z : _≡_ {A = ℕ} 0 1 = cc in omega arith)
 
-arcs-count : (lines : List (List ℕ)) (arcs : List Arc) → arcsOf lines ≡ Ok arcs → length arcs ≡ length lines - 1
+pub arcs-count : (lines : List (List ℕ)) (arcs : List Arc) → arcsOf lines ≡ Ok arcs → length arcs ≡ length lines - 1
 arcs-count [] arcs e = absurd (let z : _≡_ {A = ℕ} 0 1 = cc in omega arith)
 arcs-count (names ∷ lines) arcs e = named (columnsOf names) e
   where

@@ -2,3 +2,4 @@ pub mod Columns
 pub mod Sheets
 pub mod Passes
 pub mod Typed
+pub mod Places

@@ -4,5 +4,6 @@ pub mod columns;
 mod extent;
 mod fill;
 mod lines;
+pub mod places;
 pub mod read;
 mod row;

@@ -1,6 +1,8 @@
 // A sheet read into a table of arcs.
 ghost use mathlib.Core.Path.{_≡_};
+ghost use Prim.Native.Nat.{_≤_};
 ghost use lib.ListN.{length};
+ghost use Rattle.std.specs.Vec.{made};
 ghost use Rattle.sheet.specs.Sheets.{sheetOf, tableAfter};
 ghost use Rattle.sheet.specs.Typed.{ReadsBack};
 use crate::check::check;
@@ -21,6 +23,7 @@ pub struct Sheet {
 pub fn read(bytes: &[u8], table: &mut [Arc]) -> Result<Sheet, Refusal>
     ensures answer { λ r. ⌜ r ≡ sheetOf (now (bytes .entry)) (length (now (table .entry))) ⌝ }
     ensures arcs { λ _. ⌜ now (table .exit) ≡ tableAfter (now (bytes .entry)) (now (table .entry)) ⌝ }
+    ensures within { λ r. ⌜ made r (λ sheet. (sheet .arcs ≤ length (now (table .entry))) × (sheet .end ≤ length (now (bytes .entry)))) ⌝ }
     ensures back { λ r. ⌜ ReadsBack (now (bytes .entry)) (now (table .entry)) r (now (table .exit)) ⌝ }
 {
     let (lines, taken) = extent(bytes);

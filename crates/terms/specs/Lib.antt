@@ -2,3 +2,4 @@ pub mod Amounts
 pub mod Faults
 pub mod Refusals
 pub mod Slacks
+pub mod Words

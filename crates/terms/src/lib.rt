@@ -4,3 +4,4 @@ pub mod arc;
 pub mod fault;
 pub mod refusal;
 pub mod slack;
+pub mod words;
