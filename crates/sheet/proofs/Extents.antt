@@ -15,7 +15,6 @@ filled-span [] = omega arith
 filled-span ([] ∷ ls) = omega arith
 filled-span ((b ∷ bs) ∷ ls) = omega (arith, filled-span ls)
 
-
 -- the lines of a text take up its bytes, and one more where no byte 10 ends the last
 lines-span : (bs : List ℕ) → span (linesOf bs) ≤ length bs + 1
 lines-span [] = omega arith

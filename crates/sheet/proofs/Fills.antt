@@ -32,7 +32,7 @@ module _ {all was table : List Arc} {at : ℕ} {left : List Arc} where
   one-more arc room so-far = record {
     within = omega (arith, length-set table at arc);
     ends = rw (take-more-set table at arc room, drop-set-lt (at + 1) table at arc (omega arith), append-assoc)
-      (ap (λ rest. take at table ++ written (arc ∷ left) rest) (sym (drop-more table at arc room)) ∙ so-far .ends);
+        (ap (λ rest. take at table ++ written (arc ∷ left) rest) (sym (drop-more table at arc room)) ∙ so-far .ends);
   }
 
   pub full : (arc : Arc) → length table ≤ at → Filling all was table at (arc ∷ left) → Filling all was table at left

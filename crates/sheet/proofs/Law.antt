@@ -161,8 +161,7 @@ module _ (order : Columns) (arcs : List Arc) (after : List ℕ) (s : Stops after
 pub read-back : (bytes : List ℕ) (was : List Arc) → ReadsBack bytes was (sheetOf bytes (length was)) (tableAfter bytes was)
 read-back bytes was order arcs after e s t room =
     let text = typedSheet order arcs ++ after in
-    let typed = accepted text was (omega (arith, typed-count order arcs after s t)) arcs (typed-arcs order arcs after s t) in
-    (
+    let typed = accepted text was (omega (arith, typed-count order arcs after s t)) arcs (typed-arcs order arcs after s t) in (
       ap (λ bs. sheetOf bs (length was)) e ∙ typed .0 ∙ rw (typed-count order arcs after s t, typed-end order arcs after s t) refl,
       ap (λ bs. tableAfter bs was) e ∙ typed .1 ∙ room-for-all arcs was room,
     )

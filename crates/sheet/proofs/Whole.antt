@@ -58,8 +58,7 @@ module _ (bytes : List ℕ) (table : List Arc) where
     pub accepted : (arcs : List Arc) → arcsOf (sheetLines bytes) ≡ Ok arcs → (sheetOf bytes (length table) ≡ Ok (record { arcs = length (sheetLines bytes) - 1; end = endOf bytes })) × (tableAfter bytes table ≡ written arcs table)
     unfolding sheetOf tableAfter
     accepted arcs h =
-        let count = arcs-count (sheetLines bytes) arcs h in
-        (
+        let count = arcs-count (sheetLines bytes) arcs h in (
           cond-false _ _ _ (le-ltb _ _ room) ∙ ap (answered bytes) h ∙ rw count refl,
           cond-false _ _ _ (le-ltb _ _ room) ∙ ap (λ r. filledBy r table) h ∙ sym (room-for-all arcs table (omega arith)),
         )

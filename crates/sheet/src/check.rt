@@ -21,7 +21,10 @@ fn header(first: Option<&[u8]>) -> Result<Columns, SheetFault>
             return Ok(columns);
         }
     }
-    Err(SheetFault { line: 1, fault: LineFault::Names })
+    Err(SheetFault {
+        line: 1,
+        fault: LineFault::Names,
+    })
 }
 
 // The order of the columns of a sheet without fault, or its first fault.

@@ -18,7 +18,9 @@ impl<'a> SheetLines<'a> {
     pub fn new(bytes: &'a [u8]) -> SheetLines<'a>
         ensures { λ r. ⌜ now (r .lines .rest) ≡ now (bytes .entry) ⌝ }
     {
-        SheetLines { lines: Lines::new(bytes) }
+        SheetLines {
+            lines: Lines::new(bytes),
+        }
     }
 }
 

@@ -9,7 +9,9 @@ pub fn places(arcs: &[Arc]) -> u64
 {
     let mut places = 0;
     for arc in arcs {
-        places = places.max(u64::from(arc.tail) + 1).max(u64::from(arc.head) + 1);
+        places = places
+            .max(u64::from(arc.tail) + 1)
+            .max(u64::from(arc.head) + 1);
     }
     places
 }

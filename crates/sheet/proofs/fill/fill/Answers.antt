@@ -10,7 +10,7 @@ pub loop-line-holds : need.loop-line-holds
 loop-line-holds c =
     let o = c .args .columns in
     let rest : drop 1 (sheetLines (c .args .bytes .now)) ≡ sheetLines (c .into-iter-line-iterator .result .lines .rest .now) =
-            ap (λ bytes. drop 1 (sheetLines bytes)) (sym (c .new-lines .ensures)) ∙ ap (drop 1) (c .in-Some .ensures tt .steps) ∙ ap (λ s. sheetLines (s .lines .rest .now)) (sym (c .into-iter-line-iterator .ensures .becomes)) in
+    ap (λ bytes. drop 1 (sheetLines bytes)) (sym (c .new-lines .ensures)) ∙ ap (drop 1) (c .in-Some .ensures tt .steps) ∙ ap (λ s. sheetLines (s .lines .rest .now)) (sym (c .into-iter-line-iterator .ensures .becomes)) in
     (tt, tt, subst (Filling _ _ _ _) (ap (readable o) rest) (none-yet _ _))
 
 pub loop-line-again-then-at-table : need.loop-line-again-then-at-table
