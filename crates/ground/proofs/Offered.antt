@@ -11,6 +11,7 @@ use Rattle.std.specs.Iters.{counting}
 use Rattle.std.specs.declared.option.Option.{Option}
 use Rattle.std.specs.declared.option.Option.the-variants.{Some, None}
 use Rattle.std.specs.shelf.Lists.{kept-by}
+use Rattle.ground.specs.KnownLaws.{not-both, one-answer}
 use Rattle.ground.proofs.ArcsAt.{counting-append, kept-none}
 
 -- what the candidates i, i + 1, .. offer, n of them
@@ -24,12 +25,6 @@ pub record Offers (test : ℕ → Bool) (c : ℕ → Option ℕ) (n m : ℕ) : T
   pub within : (i x : ℕ) → i < n → c i ≡ Some x → x < m
   pub passing : (i x : ℕ) → i < n → c i ≡ Some x → test x ≡ true
   pub whole : (j : ℕ) → j < m → test j ≡ true → (i : ℕ) × (i < n) × (c i ≡ Some j)
-
-some-or-none : (v : Option ℕ) (x : ℕ) → v ≡ Some x → v ≡ None → ⊥
-some-or-none v x p q = let z : _≡_ {A = ℕ} 0 1 = cc in omega arith
-
-same-some : (v : Option ℕ) (x y : ℕ) → v ≡ Some x → v ≡ Some y → x ≡ y
-same-some v x y p q = cc
 
 module _ (test : ℕ → Bool) (c : ℕ → Option ℕ) (n m : ℕ) (o : Offers test c n m) where
   -- what the candidates from i on offer is not below a
@@ -46,13 +41,13 @@ module _ (test : ℕ → Bool) (c : ℕ → Option ℕ) (n m : ℕ) (o : Offers 
   passed-by : (i : ℕ) → c i ≡ None → (a : ℕ) → Here i a → Here (i + 1) a
   passed-by i none a here j l h t =
       let w = here j l h t in
-      let later : i + 1 ≤ w .0 = elim (cases-eq (w .0) i) [ inl e ↦ absurd (some-or-none (c i) j (ap c (sym e) ∙ w .3) none) | inr ne ↦ omega arith ] in
+      let later : i + 1 ≤ w .0 = elim (cases-eq (w .0) i) [ inl e ↦ absurd (not-both (c i) j (ap c (sym e) ∙ w .3) none) | inr ne ↦ omega arith ] in
       (w .0, later, w .2, w .3)
 
   taken : (i x : ℕ) → c i ≡ Some x → i < n → (a : ℕ) → Here i a → (j : ℕ) → a ≤ j → j < m → test j ≡ true → (j ≡ x) ⊎ ((h : ℕ) × (i + 1 ≤ h) × (h < n) × (c h ≡ Some j) × (x < j))
   taken i x some lt a here j l h t =
       let w = here j l h t in
-      elim (cases-eq (w .0) i) [ inl e ↦ inl (same-some (c i) j x (ap c (sym e) ∙ w .3) some) | inr ne ↦ (let later : i < w .0 = omega arith in inr (w .0, omega arith, w .2, w .3, o .rising i (w .0) x j later (w .2) some (w .3))) ]
+      elim (cases-eq (w .0) i) [ inl e ↦ inl (one-answer (c i) j x (ap c (sym e) ∙ w .3) some) | inr ne ↦ (let later : i < w .0 = omega arith in inr (w .0, omega arith, w .2, w .3, o .rising i (w .0) x j later (w .2) some (w .3))) ]
 
   offered-next : (i k : ℕ) → Kept (i + 1) k → (v : Option ℕ) → c i ≡ v → (a b : ℕ) → i + suc k ≡ n → a + b ≡ m → Low i a → Here i a → kept-by test (counting a b) ≡ (elim v [ Some x ↦ x ∷ offered c (i + 1) k | None ↦ offered c (i + 1) k ])
   offered-next i k rest None v a b e f low here = rest a b (omega arith) f (λ h x l. low h x (omega arith)) (passed-by i v a here)

@@ -1,0 +1,48 @@
+-- The eight directions out of a cell. Assumes nothing.
+use mathlib.Core.List.{List, [], _∷_}
+use Prim.Native.Nat.{ℕ, suc, _+_, _-_, _*_, _/_, _%_}
+use lib.Dec.{ltb}
+use lib.IntN.{ℤ, pos, negsuc}
+use lib.ListN.{getD}
+use Rattle.std.specs.declared.option.Option.{Option}
+use Rattle.std.specs.declared.option.Option.the-variants.{Some, None}
+use Rattle.grid.specs.declared.compass.Step.{Step}
+use Rattle.ground.specs.Questions.{known}
+
+-- a row or a column less, the same, or one more
+abbrev pub less : ℤ
+less = negsuc 0
+
+abbrev pub same : ℤ
+same = pos 0
+
+abbrev pub more : ℤ
+more = pos 1
+
+-- how the row changes, how the column changes, and how many times the base an arc costs at least
+abbrev pub step : ℤ → ℤ → ℕ → Step
+step r c f = record { row = r; column = c; factor = f }
+
+-- the directions 0 to 7
+abbrev pub compass : List Step
+compass =
+    step less same 5 ∷ step less more 7 ∷ step same more 5 ∷ step more more 7 ∷
+    step more same 5 ∷ step more less 7 ∷ step same less 5 ∷ step less less 7 ∷ []
+
+abbrev pub stepOf : ℕ → Step
+stepOf d = getD compass d (step same same 0)
+
+-- the row or the column that a step leads to, if it is one of so many
+abbrev pub moved : ℕ → ℕ → ℤ → Option ℕ
+moved limit at (pos by) = known (ltb (at + by) limit) (at + by)
+moved limit at (negsuc by) = known (ltb by at) (at - suc by)
+
+-- the place at a row and a column
+abbrev pub placeAt : ℕ → Option ℕ → Option ℕ → Option ℕ
+placeAt columns None c = None
+placeAt columns (Some r) None = None
+placeAt columns (Some r) (Some c) = Some (r * columns + c)
+
+-- the place beside p in direction d, unless that is off the grid
+unfoldable pub neighbour : ℕ → ℕ → ℕ → ℕ → Option ℕ
+neighbour rows columns p d = placeAt columns (moved rows (p / columns) (stepOf d .row)) (moved columns (p % columns) (stepOf d .column))

@@ -1,0 +1,4 @@
+pub mod Compass
+pub mod Grids
+pub mod GridLaws
+pub mod Made

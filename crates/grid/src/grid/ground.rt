@@ -1,0 +1,2 @@
+// A grid is a ground.
+ghost use mathlib.Core.Path.{_≡_};
