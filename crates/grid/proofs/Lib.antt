@@ -1,1 +1,2 @@
 pub mod Beside
+pub mod Leaving

@@ -66,3 +66,7 @@ arcsAt-same end end′ m p p′ same = kept-same (λ j. eqb (end j) p) (λ j. eq
 pub arcsAt-none : (end : ℕ → ℕ) (m p : ℕ) → ((j : ℕ) → j < m → end j ≡ p → ⊥) → arcsAt end m p ≡ []
 unfolding arcsAt
 arcsAt-none end m p none = kept-none (λ j. eqb (end j) p) 0 m (λ j l h. ne-eqb (end j) p (none j (omega arith)))
+
+-- no arc is at a place that the ground lacks
+pub arcsAt-beyond : (end : ℕ → ℕ) (m n p : ℕ) → ((j : ℕ) → j < m → end j < n) → n ≤ p → arcsAt end m p ≡ []
+arcsAt-beyond end m n p inside beyond = arcsAt-none end m p (λ j h e. omega (arith, inside j h))

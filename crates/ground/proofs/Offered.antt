@@ -5,12 +5,14 @@ use mathlib.Core.Logic.{_⊎_, inl, inr}
 use mathlib.Core.Path.{_≡_, refl, sym, _∙_, ap}
 use native.Mathlib.Omega.{arith}
 use Prim.Native.Nat.{ℕ, zero, suc, _+_, _-_, _≤_, _<_}
+use lib.Dec.{eqb}
 use Rattle.std.proofs.shelf.Elements.{kept-by-append}
 use Rattle.std.proofs.shelf.Tests.{cases-bool, cases-eq, cond-true}
 use Rattle.std.specs.Iters.{counting}
 use Rattle.std.specs.declared.option.Option.{Option}
 use Rattle.std.specs.declared.option.Option.the-variants.{Some, None}
 use Rattle.std.specs.shelf.Lists.{kept-by}
+use Rattle.ground.specs.Questions.{arcsAt}
 use Rattle.ground.specs.KnownLaws.{not-both, one-answer}
 use Rattle.ground.proofs.ArcsAt.{counting-append, kept-none}
 
@@ -81,3 +83,8 @@ module _ (test : ℕ → Bool) (c : ℕ → Option ℕ) (n m : ℕ) (o : Offers 
 
   pub kept-offered : kept-by test (counting 0 m) ≡ offered c 0 n
   kept-offered = offered-kept n 0 0 m (omega arith) (omega arith) (λ h x l g e. omega arith) (λ j l h t. let w = o .whole j h t in (w .0, omega arith, w .1, w .2))
+
+-- the arcs at a place, as the candidates for them offer them
+pub arcsAt-offered : (end : ℕ → ℕ) (c : ℕ → Option ℕ) (n m p : ℕ) → Offers (λ j. eqb (end j) p) c n m → arcsAt end m p ≡ offered c 0 n
+unfolding arcsAt
+arcsAt-offered end c n m p o = kept-offered (λ j. eqb (end j) p) c n m o

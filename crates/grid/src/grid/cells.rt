@@ -18,7 +18,7 @@ fn moved(limit: u32, at: u32, by: i32) -> Option<u32>
 
 impl Grid {
     // The place beside a cell, unless that is off the grid.
-    fn neighbour(&self, place: u32, direction: usize) -> Option<u32>
+    pub(super) fn neighbour(&self, place: u32, direction: usize) -> Option<u32>
         requires { ⌜ place < now self .rows * now self .columns ⌝ ∗ ⌜ direction < 8 ⌝ }
         ensures { λ r. ⌜ r ≡ beside (now (self .entry) .rows) (now (self .entry) .columns) place direction ⌝ }
     {

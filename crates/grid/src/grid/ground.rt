@@ -1,2 +1,65 @@
-// A grid is a ground.
-ghost use mathlib.Core.Path.{_≡_};
+// A grid is a ground. Each question is answered in constant time.
+ghost use Rattle.grid.specs.Grids.{gridded};
+ghost use Rattle.grid.specs.GridLaws.{gridded-lawful};
+use crate::compass::step_in;
+use crate::grid::Grid;
+use ground::ground::Ground;
+
+pub impl Ground for Grid as GridGround {
+    ghost meaning = { λ g. gridded (g .rows) (g .columns) (g .base) };
+
+    ghost lawful = { λ g. gridded-lawful (g .rows) (g .columns) (g .base) (g .someRows) (g .fewRows) (g .someColumns) (g .fewColumns) (g .lowBase) (g .highBase) };
+
+    fn places(&self) -> u32 {
+        self.rows * self.columns
+    }
+
+    fn arcs(&self) -> u32 {
+        8 * self.places()
+    }
+
+    fn tail(&self, arc: u32) -> Option<u32> {
+        if arc < self.arcs() { Some(arc / 8) } else { None }
+    }
+
+    fn head(&self, arc: u32) -> Option<u32> {
+        let place = self.tail(arc)?;
+        let beside = self.neighbour(place, arc as usize % 8);
+        Some(beside.unwrap_or(place))
+    }
+
+    fn least(&self, arc: u32) -> Option<u32> {
+        if arc < self.arcs() {
+            Some(step_in(arc as usize % 8).factor * self.base)
+        } else {
+            None
+        }
+    }
+
+    fn estimate(&self, from: u32, to: u32) -> Option<u32> {
+        if from >= self.places() || to >= self.places() {
+            return None;
+        }
+        let rows = (from / self.columns).abs_diff(to / self.columns);
+        let columns = (from % self.columns).abs_diff(to % self.columns);
+        let slanting = rows.min(columns);
+        let straight = rows.max(columns) - slanting;
+        Some(7 * self.base * slanting + 5 * self.base * straight)
+    }
+
+    fn leaving_count(&self, place: u32) -> u32 {
+        if place < self.places() { 8 } else { 0 }
+    }
+
+    fn entering_count(&self, place: u32) -> u32 {
+        if place < self.places() { 8 } else { 0 }
+    }
+
+    fn leaving(&self, place: u32, k: u32) -> Option<u32> {
+        if place < self.places() && k < 8 { Some(8 * place + k) } else { None }
+    }
+
+    fn entering(&self, place: u32, k: u32) -> Option<u32> {
+        None
+    }
+}
