@@ -43,6 +43,10 @@ placeAt columns None c = None
 placeAt columns (Some r) None = None
 placeAt columns (Some r) (Some c) = Some (r * columns + c)
 
--- the place beside p in direction d, unless that is off the grid
-unfoldable pub neighbour : ℕ → ℕ → ℕ → ℕ → Option ℕ
-neighbour rows columns p d = placeAt columns (moved rows (p / columns) (stepOf d .row)) (moved columns (p % columns) (stepOf d .column))
+-- the place beside the cell at row r and column c in direction d, unless that is off the grid
+unfoldable pub beside : ℕ → ℕ → ℕ → ℕ → ℕ → Option ℕ
+beside rows columns r c d = placeAt columns (moved rows r (stepOf d .row)) (moved columns c (stepOf d .column))
+
+-- the same of the cell at place p
+abbrev pub neighbour : ℕ → ℕ → ℕ → ℕ → Option ℕ
+neighbour rows columns p d = beside rows columns (p / columns) (p % columns) d

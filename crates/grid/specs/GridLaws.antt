@@ -13,7 +13,7 @@ use Rattle.std.proofs.shelf.Bits.{div-below, mod-below, div-mul-add, mod-mul-ad
 use Rattle.std.proofs.shelf.Tests.{ltb-true, lt-ltb}
 use Rattle.ground.specs.KnownLaws.{not-both, one-answer, known-some, known-there}
 use Rattle.ground.specs.Meanings.{Meaning, Lawful}
-use Rattle.grid.specs.Compass.{less, same, more, stepOf, moved, placeAt, neighbour}
+use Rattle.grid.specs.Compass.{less, same, more, stepOf, moved, placeAt, beside, neighbour}
 use Rattle.grid.specs.Grids.{gridded, estimated, apart}
 
 -- what holds of 0 to 7 holds of every direction
@@ -74,7 +74,7 @@ module _ (rows columns : ℕ) (some : 1 ≤ columns) where
   column-of p = mod-below p columns some
 
   pub neighbour-is : (p d s : ℕ) → p < rows * columns → neighbour rows columns p d ≡ Some s → Beside rows columns p d s
-  unfolding neighbour
+  unfolding beside
   neighbour-is p d s h e = at (moved rows (p / columns) (stepOf d .row)) (moved columns (p % columns) (stepOf d .column)) refl refl e
     where
       at : (r c : Option ℕ) → moved rows (p / columns) (stepOf d .row) ≡ r → moved columns (p % columns) (stepOf d .column) ≡ c → placeAt columns r c ≡ Some s → Beside rows columns p d s
@@ -86,7 +86,7 @@ module _ (rows columns : ℕ) (some : 1 ≤ columns) where
           record { row = r; column = c; row-in = v .0; column-in = w .0; place = one-answer (Some s) s (r * columns + c) refl (sym g); row-moved = v .1; column-moved = w .1 }
 
   pub neighbour-to : (p d s : ℕ) → Beside rows columns p d s → neighbour rows columns p d ≡ Some s
-  unfolding neighbour
+  unfolding beside
   neighbour-to p d s b =
       ap (λ r. placeAt columns r (moved columns (p % columns) (stepOf d .column))) (moved-to rows (p / columns) (stepOf d .row) (b .row) (b .row-in) (b .row-moved))
       ∙ ap (placeAt columns (Some (b .row))) (moved-to columns (p % columns) (stepOf d .column) (b .column) (b .column-in) (b .column-moved))
@@ -156,6 +156,7 @@ module _ (rows columns base : ℕ) (some : 1 ≤ columns) where
     where
       est : ℕ → ℕ
       est s = gridded rows columns base .estimate a s
+
       away : (s : ℕ) → Beside rows columns (j / 8) (j % 8) s → est s ≤ est (j / 8) + stepOf (j % 8) .factor * base
       away s b =
           let u = a / columns in
@@ -180,7 +181,7 @@ span-self base x y =
     ap₂ (estimated base) (zero-apart x) (zero-apart y) ∙ estimated-by base 0 0 ∙ mul-zero base
 
 module _ (rows columns base : ℕ) (some-rows : 1 ≤ rows) (few-rows : rows ≤ 128) (some-columns : 1 ≤ columns) (few-columns : columns ≤ 128) (low-base : 1 ≤ base) (high-base : base ≤ 1000) where
-  few : rows * columns ≤ 16384
+  pub few : rows * columns ≤ 16384
   few = mul-le-mul {n₂ = 128} {m₂ = 128} few-rows few-columns
 
   grid-high : (a s : ℕ) → a < rows * columns → s < rows * columns → gridded rows columns base .estimate a s ≤ 163830000
@@ -199,12 +200,13 @@ module _ (rows columns base : ℕ) (some-rows : 1 ≤ rows) (few-rows : rows ≤
 
   pub gridded-lawful : Lawful (gridded rows columns base)
   gridded-lawful = record {
-      few-places = few;
-      few-arcs = omega (arith, few);
-      tail-in = λ j h. omega arith;
-      head-in = λ j h. head-of rows columns base some-columns (λ s. s < rows * columns) (j / 8) (j % 8) (omega arith) (omega arith) (λ s b. beside-in rows columns some-columns (j / 8) (j % 8) s b);
-      least-low = λ j h. least-is (j % 8) (omega arith) .0;
-      least-high = λ j h. least-is (j % 8) (omega arith) .1;
-      estimate-high = grid-high;
-      estimate-self = λ a h. span-self base (a / columns) (a % columns);
-      estimate-step = λ a j h k. grid-step rows columns base some-columns a j k }
+    few-places = few;
+    few-arcs = omega (arith, few);
+    tail-in = λ j h. omega arith;
+    head-in = λ j h. head-of rows columns base some-columns (λ s. s < rows * columns) (j / 8) (j % 8) (omega arith) (omega arith) (λ s b. beside-in rows columns some-columns (j / 8) (j % 8) s b);
+    least-low = λ j h. least-is (j % 8) (omega arith) .0;
+    least-high = λ j h. least-is (j % 8) (omega arith) .1;
+    estimate-high = grid-high;
+    estimate-self = λ a h. span-self base (a / columns) (a % columns);
+    estimate-step = λ a j h k. grid-step rows columns base some-columns a j k;
+  }

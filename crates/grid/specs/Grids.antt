@@ -15,9 +15,10 @@ estimated base x y = 7 * base * min x y + 5 * base * (max x y - min x y)
 -- Place row × columns + column; arc 8 × place + direction, which leads back to its own cell where it would leave the grid.
 abbrev pub gridded : ℕ → ℕ → ℕ → Meaning
 gridded rows columns base = record {
-    places = rows * columns;
-    arcs = 8 * (rows * columns);
-    tail = λ j. j / 8;
-    head = λ j. valueOr (neighbour rows columns (j / 8) (j % 8)) (j / 8);
-    least = λ j. stepOf (j % 8) .factor * base;
-    estimate = λ a s. estimated base (apart (a / columns) (s / columns)) (apart (a % columns) (s % columns)) }
+  places = rows * columns;
+  arcs = 8 * (rows * columns);
+  tail = λ j. j / 8;
+  head = λ j. valueOr (neighbour rows columns (j / 8) (j % 8)) (j / 8);
+  least = λ j. stepOf (j % 8) .factor * base;
+  estimate = λ a s. estimated base (apart (a / columns) (s / columns)) (apart (a % columns) (s % columns));
+}

@@ -2,3 +2,4 @@ pub mod Compass
 pub mod Grids
 pub mod GridLaws
 pub mod Made
+pub mod Entries

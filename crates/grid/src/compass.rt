@@ -12,14 +12,46 @@ pub struct Step {
 }
 
 const STEPS: [Step; 8] = [
-    Step { row: -1, column: 0, factor: 5 },
-    Step { row: -1, column: 1, factor: 7 },
-    Step { row: 0, column: 1, factor: 5 },
-    Step { row: 1, column: 1, factor: 7 },
-    Step { row: 1, column: 0, factor: 5 },
-    Step { row: 1, column: -1, factor: 7 },
-    Step { row: 0, column: -1, factor: 5 },
-    Step { row: -1, column: -1, factor: 7 },
+    Step {
+        row: -1,
+        column: 0,
+        factor: 5,
+    },
+    Step {
+        row: -1,
+        column: 1,
+        factor: 7,
+    },
+    Step {
+        row: 0,
+        column: 1,
+        factor: 5,
+    },
+    Step {
+        row: 1,
+        column: 1,
+        factor: 7,
+    },
+    Step {
+        row: 1,
+        column: 0,
+        factor: 5,
+    },
+    Step {
+        row: 1,
+        column: -1,
+        factor: 7,
+    },
+    Step {
+        row: 0,
+        column: -1,
+        factor: 5,
+    },
+    Step {
+        row: -1,
+        column: -1,
+        factor: 7,
+    },
 ];
 
 // The step of a direction.

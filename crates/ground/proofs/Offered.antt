@@ -2,22 +2,24 @@
 use mathlib.Core.Bool.{Bool, true, false}
 use mathlib.Core.List.{List, [], _∷_, _++_}
 use mathlib.Core.Logic.{_⊎_, inl, inr}
-use mathlib.Core.Path.{_≡_, refl, sym, _∙_, ap}
+use mathlib.Core.Path.{_≡_, refl, sym, _∙_, ap, ap₂}
 use native.Mathlib.Omega.{arith}
 use Prim.Native.Nat.{ℕ, zero, suc, _+_, _-_, _≤_, _<_}
 use lib.Dec.{eqb}
+use lib.ListN.{length}
 use Rattle.std.proofs.shelf.Elements.{kept-by-append}
 use Rattle.std.proofs.shelf.Tests.{cases-bool, cases-eq, cond-true}
 use Rattle.std.specs.Iters.{counting}
 use Rattle.std.specs.declared.option.Option.{Option}
 use Rattle.std.specs.declared.option.Option.the-variants.{Some, None}
 use Rattle.std.specs.shelf.Lists.{kept-by}
+use Rattle.std.specs.shelf.Maps.{nth}
 use Rattle.ground.specs.Questions.{arcsAt}
 use Rattle.ground.specs.KnownLaws.{not-both, one-answer}
 use Rattle.ground.proofs.ArcsAt.{counting-append, kept-none}
 
 -- what the candidates i, i + 1, .. offer, n of them
-abbrev pub offered : (ℕ → Option ℕ) → ℕ → ℕ → List ℕ
+unfoldable pub offered : (ℕ → Option ℕ) → ℕ → ℕ → List ℕ
 offered c i zero = []
 offered c i (suc n) = elim (c i) [ Some x ↦ x ∷ offered c (i + 1) n | None ↦ offered c (i + 1) n ]
 
@@ -77,6 +79,7 @@ module _ (test : ℕ → Bool) (c : ℕ → Option ℕ) (n m : ℕ) (o : Offers 
       after j l h t = let from : a ≤ x = low i x (omega arith) (omega arith) v in let w = taken i x v (omega arith) a here j (omega arith) h t in elim w [ inl e ↦ absurd (omega arith) | inr w ↦ (w .0, w .1, w .2, w .3) ]
 
   offered-kept : (k i : ℕ) → Kept i k
+  unfolding offered
   offered-kept zero i a b e f low here =
       kept-none test a b (λ j l h. elim (cases-bool (test j)) [ inl t ↦ (let w = here j l (omega arith) t in absurd (omega arith)) | inr t ↦ t ])
   offered-kept (suc k) i a b e f low here = offered-next i k (offered-kept k (i + 1)) (c i) refl a b e f low here
@@ -88,3 +91,44 @@ module _ (test : ℕ → Bool) (c : ℕ → Option ℕ) (n m : ℕ) (o : Offers 
 pub arcsAt-offered : (end : ℕ → ℕ) (c : ℕ → Option ℕ) (n m p : ℕ) → Offers (λ j. eqb (end j) p) c n m → arcsAt end m p ≡ offered c 0 n
 unfolding arcsAt
 arcsAt-offered end c n m p o = kept-offered (λ j. eqb (end j) p) c n m o
+
+-- a walk over n candidates: the next one offers something, or nothing, or there is no next
+module _ (c : ℕ → Option ℕ) (n i : ℕ) where
+  offered-at : (v : Option ℕ) → i < n → c i ≡ v → offered c i (n - i) ≡ (elim v [ Some x ↦ x ∷ offered c (i + 1) (n - (i + 1)) | None ↦ offered c (i + 1) (n - (i + 1)) ])
+  unfolding offered
+  offered-at v l e =
+      let s : n - i ≡ suc (n - (i + 1)) = omega arith in
+      ap (offered c i) s ∙ ap (λ w. elim w [ Some x ↦ x ∷ offered c (i + 1) (n - (i + 1)) | None ↦ offered c (i + 1) (n - (i + 1)) ]) e
+
+  pub walk-here : (x : ℕ) → i < n → c i ≡ Some x → nth (offered c i (n - i)) 0 ≡ Some x
+  walk-here x l e = ap (λ xs. nth xs 0) (offered-at (Some x) l e)
+
+  pub walk-past : (x left : ℕ) → i < n → c i ≡ Some x → 0 < left → nth (offered c i (n - i)) left ≡ nth (offered c (i + 1) (n - (i + 1))) (left - 1)
+  walk-past x left l e h =
+      let s : left ≡ suc (left - 1) = omega arith in
+      ap₂ nth (offered-at (Some x) l e) s
+
+  pub walk-on : (left : ℕ) → i < n → c i ≡ None → nth (offered c i (n - i)) left ≡ nth (offered c (i + 1) (n - (i + 1))) left
+  walk-on left l e = ap (λ xs. nth xs left) (offered-at None l e)
+
+  pub walk-over : (left : ℕ) → n ≤ i → nth (offered c i (n - i)) left ≡ None
+  unfolding offered
+  walk-over left l = let s : n - i ≡ 0 = omega arith in ap (λ k. nth (offered c i k) left) s
+
+-- 1 for an offer, and 0 for none
+unfoldable pub ones : Option ℕ → ℕ
+ones (Some x) = 1
+ones None = 0
+
+abbrev pub offers : (ℕ → Option ℕ) → ℕ → ℕ → ℕ
+offers c i zero = 0
+offers c i (suc n) = ones (c i) + offers c (i + 1) n
+
+pub length-offered : (c : ℕ → Option ℕ) (i n : ℕ) → length (offered c i n) ≡ offers c i n
+unfolding ones offered
+length-offered c i zero = refl
+length-offered c i (suc n) = at (c i) (length-offered c (i + 1) n)
+  where
+    at : (v : Option ℕ) → length (offered c (i + 1) n) ≡ offers c (i + 1) n → length (elim v as (λ _. List ℕ) [ Some x ↦ x ∷ offered c (i + 1) n | None ↦ offered c (i + 1) n ]) ≡ ones v + offers c (i + 1) n
+    at (Some x) e = omega arith
+    at None e = omega arith

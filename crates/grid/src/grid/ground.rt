@@ -19,12 +19,16 @@ pub impl Ground for Grid as GridGround {
     }
 
     fn tail(&self, arc: u32) -> Option<u32> {
-        if arc < self.arcs() { Some(arc / 8) } else { None }
+        if arc < self.arcs() {
+            Some(arc / 8)
+        } else {
+            None
+        }
     }
 
     fn head(&self, arc: u32) -> Option<u32> {
         let place = self.tail(arc)?;
-        let beside = self.neighbour(place, arc as usize % 8);
+        let beside = self.beside(self.cell(place), arc as usize % 8);
         Some(beside.unwrap_or(place))
     }
 
@@ -56,10 +60,27 @@ pub impl Ground for Grid as GridGround {
     }
 
     fn leaving(&self, place: u32, k: u32) -> Option<u32> {
-        if place < self.places() && k < 8 { Some(8 * place + k) } else { None }
+        if place < self.places() && k < 8 {
+            Some(8 * place + k)
+        } else {
+            None
+        }
     }
 
     fn entering(&self, place: u32, k: u32) -> Option<u32> {
+        if place >= self.places() {
+            return None;
+        }
+        let cell = self.cell(place);
+        let mut left = k;
+        for i in 0..16 {
+            if let Some(arc) = self.entered_by(place, cell, i) {
+                if left == 0 {
+                    return Some(arc);
+                }
+                left -= 1;
+            }
+        }
         None
     }
 }

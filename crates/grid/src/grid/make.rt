@@ -9,7 +9,11 @@ impl Grid {
         ensures { λ r. ⌜ GridFor rows columns base r ⌝ }
     {
         match (rows, columns, base) {
-            (1..=128, 1..=128, 1..=1000) => Ok(Grid { rows, columns, base }),
+            (1..=128, 1..=128, 1..=1000) => Ok(Grid {
+                rows,
+                columns,
+                base,
+            }),
             _ => Err(Refusal::Outside),
         }
     }
