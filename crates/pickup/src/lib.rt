@@ -1,0 +1,2 @@
+// The pick-up: a layer over any ground.
+pub mod pickup;
