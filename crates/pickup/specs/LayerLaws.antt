@@ -41,10 +41,10 @@ lowered-in places p h =
     | inr l ↦ (let e : places + (p - places) ≡ p = omega arith in subst (λ (z : ℕ). z < places) (sym (ap (lowered places) (sym e) ∙ lowered-after places (p - places))) (omega arith)) ]
 
 -- an arc of the layer is one of the ground below, a copy of one, or the pick-up
-pub data Part (b : Meaning) (q : ℕ) : ℕ → Type 0 where
-  before : (j : ℕ) → j < b .arcs → Part b q j
-  after : (j : ℕ) → j < b .arcs → Part b q (b .arcs + j)
-  pickup : q < b .places → Part b q (2 * b .arcs)
+pub data Kind (b : Meaning) (q : ℕ) : ℕ → Type 0 where
+  before : (j : ℕ) → j < b .arcs → Kind b q j
+  after : (j : ℕ) → j < b .arcs → Kind b q (b .arcs + j)
+  pickup : q < b .places → Kind b q (2 * b .arcs)
 
 module _ (b : Meaning) (q : ℕ) where
   -- a layer that has anything fits
@@ -59,23 +59,23 @@ module _ (b : Meaning) (q : ℕ) where
   unfolding layered
   place-of p h = fitting (2 * b .places) p h .1
 
-  pub part-of : (j : ℕ) → j < layered b q .arcs → Part b q j
+  pub part-of : (j : ℕ) → j < layered b q .arcs → Kind b q j
   unfolding layered
   part-of j h = at (fitting (2 * b .arcs + crossings b q) j h .1)
     where
-      last : (t : Bool) → ltb q (b .places) ≡ t → j < 2 * b .arcs + cond t 1 0 → 2 * b .arcs ≤ j → Part b q j
-      last true e l m = (let i : 2 * b .arcs ≡ j = omega arith in subst (Part b q) i (pickup (ltb-true q (b .places) e)))
+      last : (t : Bool) → ltb q (b .places) ≡ t → j < 2 * b .arcs + cond t 1 0 → 2 * b .arcs ≤ j → Kind b q j
+      last true e l m = (let i : 2 * b .arcs ≡ j = omega arith in subst (Kind b q) i (pickup (ltb-true q (b .places) e)))
       last false e l m = absurd (omega arith)
-      at : j < 2 * b .arcs + crossings b q → Part b q j
+      at : j < 2 * b .arcs + crossings b q → Kind b q j
       at l = elim (cases-lt j (b .arcs)) [
           inl m ↦ before j m
         | inr m ↦ elim (cases-lt j (2 * b .arcs)) [
-            inl k ↦ (let i : b .arcs + (j - b .arcs) ≡ j = omega arith in subst (Part b q) i (after (j - b .arcs) (omega arith)))
+            inl k ↦ (let i : b .arcs + (j - b .arcs) ≡ j = omega arith in subst (Kind b q) i (after (j - b .arcs) (omega arith)))
           | inr k ↦ last (ltb q (b .places)) refl l k ] ]
 
   -- what the parts of a layer have
   module _ (f g : ℕ → ℕ) (own : ℕ) (P : ℕ → ℕ → Type 0) where
-    pub by-part : (j : ℕ) → Part b q j → ((i : ℕ) → i < b .arcs → P i (f i)) → ((i : ℕ) → i < b .arcs → P (b .arcs + i) (g i)) → (q < b .places → P (2 * b .arcs) own) → P j (copied (b .arcs) f g own j)
+    pub by-part : (j : ℕ) → Kind b q j → ((i : ℕ) → i < b .arcs → P i (f i)) → ((i : ℕ) → i < b .arcs → P (b .arcs + i) (g i)) → (q < b .places → P (2 * b .arcs) own) → P j (copied (b .arcs) f g own j)
     by-part j (before i h) x y z = subst (P i) (sym (copied-before (b .arcs) f g own i h)) (x i h)
     by-part j (after i h) x y z = subst (P (b .arcs + i)) (sym (copied-after (b .arcs) f g own i h)) (y i h)
     by-part j (pickup h) x y z = subst (P (2 * b .arcs)) (sym (copied-own (b .arcs) f g own (2 * b .arcs) (omega arith))) (z h)
@@ -91,7 +91,7 @@ module _ (b : Meaning) (q : ℕ) (l : Lawful b) where
   leasts = copied (b .arcs) (b .least) (b .least) 1
 
   -- the estimate rises along an arc of the layer as along the arc below; the pick-up leads nowhere else
-  layer-step : (a j : ℕ) → a < b .places → Part b q j → b .estimate a (lowered (b .places) (heads j)) ≤ b .estimate a (lowered (b .places) (tails j)) + leasts j
+  layer-step : (a j : ℕ) → a < b .places → Kind b q j → b .estimate a (lowered (b .places) (heads j)) ≤ b .estimate a (lowered (b .places) (tails j)) + leasts j
   unfolding tails heads leasts
   layer-step a j h (before i k) =
       let n = b .places in
