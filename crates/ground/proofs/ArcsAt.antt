@@ -8,12 +8,15 @@ use native.Mathlib.Numerals.{add-one}
 use native.Mathlib.Omega.{arith}
 use Prim.Native.Nat.{ℕ, zero, suc, _+_, _-_, _≤_, _<_}
 use lib.Dec.{eqb}
+use lib.ListN.{length}
 use Rattle.std.proofs.shelf.Elements.{kept-by-append}
-use Rattle.std.proofs.shelf.Tests.{cases-bool, cases-eq, ne-eqb, eq-eqb, eqb-true, cond-true, cond-false}
+use Rattle.std.proofs.shelf.Tests.{cases-eq, ne-eqb, eq-eqb, eqb-true, false≢true}
 use Rattle.std.specs.Iters.{counting}
 use Rattle.std.specs.declared.option.Option.{Option}
 use Rattle.std.specs.declared.option.Option.the-variants.{Some, None}
 use Rattle.std.specs.shelf.Lists.{kept-by}
+use Rattle.std.specs.shelf.Maps.{nth}
+use Rattle.ground.specs.KnownLaws.{not-both, one-answer}
 use Rattle.ground.specs.Questions.{arcsAt}
 
 pub counting-append : (a n k : ℕ) → counting a (n + k) ≡ counting a n ++ counting (a + n) k
@@ -70,3 +73,57 @@ arcsAt-none end m p none = kept-none (λ j. eqb (end j) p) 0 m (λ j l h. ne-eqb
 -- no arc is at a place that the ground lacks
 pub arcsAt-beyond : (end : ℕ → ℕ) (m n p : ℕ) → ((j : ℕ) → j < m → end j < n) → n ≤ p → arcsAt end m p ≡ []
 arcsAt-beyond end m n p inside beyond = arcsAt-none end m p (λ j h e. omega (arith, inside j h))
+
+-- what a filter of numbers keeps: some of them, each of which passes, and each that passes
+kept-few : (t : ℕ → Bool) (a n : ℕ) → length (kept-by t (counting a n)) ≤ n
+kept-few t a zero = omega arith
+kept-few t a (suc n) = at (t a) (kept-few t (a + 1) n)
+  where
+    at : (b : Bool) → length (kept-by t (counting (a + 1) n)) ≤ n → length (cond b (a ∷ kept-by t (counting (a + 1) n)) (kept-by t (counting (a + 1) n))) ≤ suc n
+    at true h = omega arith
+    at false h = omega arith
+
+kept-at : (t : ℕ → Bool) (a n k j : ℕ) → nth (kept-by t (counting a n)) k ≡ Some j → (a ≤ j) × (j < a + n) × (t j ≡ true)
+kept-at t a zero k j e = absurd (not-both None j e refl)
+kept-at t a (suc n) k j e = at (t a) refl k (λ i f. kept-at t (a + 1) n i j f) e
+  where
+    Later : Type 0
+    Later = (i : ℕ) → nth (kept-by t (counting (a + 1) n)) i ≡ Some j → (a + 1 ≤ j) × (j < a + 1 + n) × (t j ≡ true)
+
+    at : (b : Bool) → t a ≡ b → (k : ℕ) → Later → nth (cond b (a ∷ kept-by t (counting (a + 1) n)) (kept-by t (counting (a + 1) n))) k ≡ Some j → (a ≤ j) × (j < a + suc n) × (t j ≡ true)
+    at true p zero later e = let s = one-answer (Some a) a j refl e in (omega arith, omega arith, ap t (sym s) ∙ p)
+    at true p (suc k) later e = let r = later k e in (omega arith, omega arith, r .2)
+    at false p k later e = let r = later k e in (omega arith, omega arith, r .2)
+
+kept-has : (t : ℕ → Bool) (a n j : ℕ) → a ≤ j → j < a + n → t j ≡ true → (k : ℕ) × (k < length (kept-by t (counting a n))) × (nth (kept-by t (counting a n)) k ≡ Some j)
+kept-has t a zero j l h e = absurd (omega arith)
+kept-has t a (suc n) j l h e =
+    elim (cases-eq a j) [ inl s ↦ at (t a) (ap t s ∙ e) s | inr ne ↦ past (t a) (kept-has t (a + 1) n j (omega arith) (omega arith) e) ]
+  where
+    rest : List ℕ
+    rest = kept-by t (counting (a + 1) n)
+
+    Found : List ℕ → Type 0
+    Found xs = (k : ℕ) × (k < length xs) × (nth xs k ≡ Some j)
+
+    at : (b : Bool) → b ≡ true → a ≡ j → Found (cond b (a ∷ rest) rest)
+    at true p s = (0, omega arith, ap Some s)
+    at false p s = absurd (false≢true p)
+
+    past : (b : Bool) → Found rest → Found (cond b (a ∷ rest) rest)
+    past true w = (suc (w .0), omega (arith, w .1), w .2)
+    past false w = w
+
+pub arcsAt-few : (end : ℕ → ℕ) (m p : ℕ) → length (arcsAt end m p) ≤ m
+unfolding arcsAt
+arcsAt-few end m p = kept-few (λ j. eqb (end j) p) 0 m
+
+-- an arc that is listed at a place is there
+pub arcsAt-at : (end : ℕ → ℕ) (m p k j : ℕ) → nth (arcsAt end m p) k ≡ Some j → (j < m) × (end j ≡ p)
+unfolding arcsAt
+arcsAt-at end m p k j e = let r = kept-at (λ j. eqb (end j) p) 0 m k j e in (omega arith, eqb-true (end j) p (r .2))
+
+-- an arc that is there is listed
+pub arcsAt-has : (end : ℕ → ℕ) (m p j : ℕ) → j < m → end j ≡ p → (k : ℕ) × (k < length (arcsAt end m p)) × (nth (arcsAt end m p) k ≡ Some j)
+unfolding arcsAt
+arcsAt-has end m p j h e = kept-has (λ j. eqb (end j) p) 0 m j (omega arith) (omega arith) (eq-eqb (end j) p e)

@@ -1,18 +1,18 @@
 -- A question about an arc of a layer is a question about an arc below.
-use mathlib.Core.Bool.{Bool, true, false, cond}
-use mathlib.Core.Path.{_≡_, refl, sym, _∙_, ap}
+use mathlib.Core.Bool.{Bool, true, false, cond, _&&_}
+use mathlib.Core.Path.{_≡_, refl, sym, _∙_, ap, ap₂, subst}
 use native.Mathlib.Omega.{arith}
 use Prim.Native.Nat.{ℕ, _+_, _-_, _*_, _≤_, _<_}
 use lib.Dec.{ltb}
-use Rattle.std.proofs.shelf.Tests.{ltb-true, ltb-false, lt-ltb}
+use Rattle.std.proofs.shelf.Tests.{ltb-true, ltb-false, lt-ltb, and-from}
 use Rattle.std.specs.declared.option.Option.{Option}
 use Rattle.std.specs.declared.option.Option.the-variants.{Some, None}
 use Rattle.ground.specs.KnownLaws.{known-there, known-some, not-both}
 use Rattle.ground.specs.Meanings.{Meaning}
-use Rattle.ground.specs.Questions.{known, tailOf, headOf, leastOf}
-use Rattle.pickup.specs.LayerLaws.{Kind, part-of}
+use Rattle.ground.specs.Questions.{known, tailOf, headOf, leastOf, estimateOf}
+use Rattle.pickup.specs.LayerLaws.{Kind, part-of, place-of, lowered-in}
 use Rattle.pickup.specs.LayerLaws.Kind.{before, after, pickup}
-use Rattle.pickup.specs.Layers.{layered, copied}
+use Rattle.pickup.specs.Layers.{layered, copied, lowered}
 use Rattle.pickup.specs.Parts.{partOf}
 use Rattle.pickup.specs.declared.parts.Part.{Part}
 use Rattle.pickup.specs.declared.parts.Part.the-variants.{Before, After, Crossing}
@@ -69,8 +69,21 @@ crossing-in b q j e = at (ltb j (layered b q .arcs)) (ltb j (b .arcs)) (ltb j (2
     last l k e (before i h) = absurd (omega arith)
     last l k e (after i h) = absurd (omega arith)
     last l k e (pickup h) = h
+
     at : (t u v : Bool) → ltb j (layered b q .arcs) ≡ t → ltb j (b .arcs) ≡ u → ltb j (2 * b .arcs) ≡ v → cond t (Some (cond u (Before j) (cond v (After (j - b .arcs)) Crossing))) None ≡ Some Crossing → q < b .places
     at false u v a c d e = let z : _≡_ {A = ℕ} 0 1 = cc in absurd (omega arith)
     at true true v a c d e = let z : _≡_ {A = ℕ} 0 1 = cc in absurd (omega arith)
     at true false true a c d e = let z : _≡_ {A = ℕ} 0 1 = cc in absurd (omega arith)
     at true false false a c d e = last (ltb-false j (2 * b .arcs) d) j refl (part-of b q j (ltb-true j (layered b q .arcs) a))
+
+-- an estimate of the layer is one of the ground below
+pub layer-estimate : (b : Meaning) (q a s x y : ℕ) → a < layered b q .places → s < layered b q .places → x ≡ lowered (b .places) a → y ≡ lowered (b .places) s → estimateOf b x y ≡ estimateOf (layered b q) a s
+layer-estimate b q a s x y h k e f =
+    let l : x < b .places = subst (λ (z : ℕ). z < b .places) (sym e) (lowered-in (b .places) a (place-of b q a h)) in
+    let m : y < b .places = subst (λ (z : ℕ). z < b .places) (sym f) (lowered-in (b .places) s (place-of b q s k)) in
+    known-there (ltb x (b .places) && ltb y (b .places)) (b .estimate x y) (and-from (ltb x (b .places)) (ltb y (b .places)) (lt-ltb x (b .places) l) (lt-ltb y (b .places) m))
+    ∙ ap Some (ap₂ (b .estimate) e f ∙ at)
+    ∙ sym (known-there (ltb a (layered b q .places) && ltb s (layered b q .places)) (layered b q .estimate a s) (and-from (ltb a (layered b q .places)) (ltb s (layered b q .places)) (lt-ltb a (layered b q .places) h) (lt-ltb s (layered b q .places) k)))
+  where
+    at : b .estimate (lowered (b .places) a) (lowered (b .places) s) ≡ layered b q .estimate a s
+    at = unfold layered in refl

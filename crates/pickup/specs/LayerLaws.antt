@@ -37,8 +37,9 @@ lowered-after places p =
 pub lowered-in : (places p : ℕ) → p < 2 * places → lowered places p < places
 lowered-in places p h =
     elim (cases-lt p places) [
-      inl l ↦ subst (λ (z : ℕ). z < places) (sym (lowered-before places p l)) l
-    | inr l ↦ (let e : places + (p - places) ≡ p = omega arith in subst (λ (z : ℕ). z < places) (sym (ap (lowered places) (sym e) ∙ lowered-after places (p - places))) (omega arith)) ]
+      | inl l ↦ subst (λ (z : ℕ). z < places) (sym (lowered-before places p l)) l
+      | inr l ↦ (let e : places + (p - places) ≡ p = omega arith in subst (λ (z : ℕ). z < places) (sym (ap (lowered places) (sym e) ∙ lowered-after places (p - places))) (omega arith))
+    ]
 
 -- an arc of the layer is one of the ground below, a copy of one, or the pick-up
 pub data Kind (b : Meaning) (q : ℕ) : ℕ → Type 0 where
@@ -66,12 +67,15 @@ module _ (b : Meaning) (q : ℕ) where
       last : (t : Bool) → ltb q (b .places) ≡ t → j < 2 * b .arcs + cond t 1 0 → 2 * b .arcs ≤ j → Kind b q j
       last true e l m = (let i : 2 * b .arcs ≡ j = omega arith in subst (Kind b q) i (pickup (ltb-true q (b .places) e)))
       last false e l m = absurd (omega arith)
+
       at : j < 2 * b .arcs + crossings b q → Kind b q j
       at l = elim (cases-lt j (b .arcs)) [
-          inl m ↦ before j m
+        | inl m ↦ before j m
         | inr m ↦ elim (cases-lt j (2 * b .arcs)) [
-            inl k ↦ (let i : b .arcs + (j - b .arcs) ≡ j = omega arith in subst (Kind b q) i (after (j - b .arcs) (omega arith)))
-          | inr k ↦ last (ltb q (b .places)) refl l k ] ]
+          | inl k ↦ (let i : b .arcs + (j - b .arcs) ≡ j = omega arith in subst (Kind b q) i (after (j - b .arcs) (omega arith)))
+          | inr k ↦ last (ltb q (b .places)) refl l k
+        ]
+      ]
 
   -- what the parts of a layer have
   module _ (f g : ℕ → ℕ) (own : ℕ) (P : ℕ → ℕ → Type 0) where
@@ -139,12 +143,13 @@ module _ (b : Meaning) (q : ℕ) (l : Lawful b) where
   pub layered-lawful : Lawful (layered b q)
   unfolding layered tails heads leasts
   layered-lawful = record {
-      few-places = small (2 * b .places) 16384 (λ e. room e .0);
-      few-arcs = small (2 * b .arcs + crossings b q) 131072 (λ e. omega (arith, room e, one-crossing));
-      tail-in = λ j h. whole j (tails j) h (by-part b q (b .tail) (λ j. b .places + b .tail j) q (λ _ p. p < 2 * b .places) j (part-of b q j h) (λ i k. omega (arith, l .tail-in i k)) (λ i k. omega (arith, l .tail-in i k)) (λ k. omega arith));
-      head-in = λ j h. whole j (heads j) h (by-part b q (b .head) (λ j. b .places + b .head j) (b .places + q) (λ _ p. p < 2 * b .places) j (part-of b q j h) (λ i k. omega (arith, l .head-in i k)) (λ i k. omega (arith, l .head-in i k)) (λ k. omega arith));
-      least-low = λ j h. by-part b q (b .least) (b .least) 1 (λ _ x. 1 ≤ x) j (part-of b q j h) (l .least-low) (l .least-low) (λ k. omega arith);
-      least-high = λ j h. by-part b q (b .least) (b .least) 1 (λ _ x. x ≤ 10000) j (part-of b q j h) (l .least-high) (l .least-high) (λ k. omega arith);
-      estimate-high = λ a s h k. l .estimate-high (lowered (b .places) a) (lowered (b .places) s) (lowered-in (b .places) a (place-of b q a h)) (lowered-in (b .places) s (place-of b q s k));
-      estimate-self = λ a h. l .estimate-self (lowered (b .places) a) (lowered-in (b .places) a (place-of b q a h));
-      estimate-step = λ a j h k. layer-step (lowered (b .places) a) j (lowered-in (b .places) a (place-of b q a h)) (part-of b q j k) }
+    few-places = small (2 * b .places) 16384 (λ e. room e .0);
+    few-arcs = small (2 * b .arcs + crossings b q) 131072 (λ e. omega (arith, room e, one-crossing));
+    tail-in = λ j h. whole j (tails j) h (by-part b q (b .tail) (λ j. b .places + b .tail j) q (λ _ p. p < 2 * b .places) j (part-of b q j h) (λ i k. omega (arith, l .tail-in i k)) (λ i k. omega (arith, l .tail-in i k)) (λ k. omega arith));
+    head-in = λ j h. whole j (heads j) h (by-part b q (b .head) (λ j. b .places + b .head j) (b .places + q) (λ _ p. p < 2 * b .places) j (part-of b q j h) (λ i k. omega (arith, l .head-in i k)) (λ i k. omega (arith, l .head-in i k)) (λ k. omega arith));
+    least-low = λ j h. by-part b q (b .least) (b .least) 1 (λ _ x. 1 ≤ x) j (part-of b q j h) (l .least-low) (l .least-low) (λ k. omega arith);
+    least-high = λ j h. by-part b q (b .least) (b .least) 1 (λ _ x. x ≤ 10000) j (part-of b q j h) (l .least-high) (l .least-high) (λ k. omega arith);
+    estimate-high = λ a s h k. l .estimate-high (lowered (b .places) a) (lowered (b .places) s) (lowered-in (b .places) a (place-of b q a h)) (lowered-in (b .places) s (place-of b q s k));
+    estimate-self = λ a h. l .estimate-self (lowered (b .places) a) (lowered-in (b .places) a (place-of b q a h));
+    estimate-step = λ a j h k. layer-step (lowered (b .places) a) j (lowered-in (b .places) a (place-of b q a h)) (part-of b q j k);
+  }

@@ -23,9 +23,10 @@ lowered places p = cond (ltb p places) p (p - places)
 -- The layer over b with the pick-up at q: places p and n + p, arcs j and m + j, and arc 2m from q to n + q.
 unfoldable pub layered : Meaning → ℕ → Meaning
 layered b q = record {
-    places = cond (fits b) (2 * b .places) 0;
-    arcs = cond (fits b) (2 * b .arcs + crossings b q) 0;
-    tail = copied (b .arcs) (b .tail) (λ j. b .places + b .tail j) q;
-    head = copied (b .arcs) (b .head) (λ j. b .places + b .head j) (b .places + q);
-    least = copied (b .arcs) (b .least) (b .least) 1;
-    estimate = λ a s. b .estimate (lowered (b .places) a) (lowered (b .places) s) }
+  places = cond (fits b) (2 * b .places) 0;
+  arcs = cond (fits b) (2 * b .arcs + crossings b q) 0;
+  tail = copied (b .arcs) (b .tail) (λ j. b .places + b .tail j) q;
+  head = copied (b .arcs) (b .head) (λ j. b .places + b .head j) (b .places + q);
+  least = copied (b .arcs) (b .least) (b .least) 1;
+  estimate = λ a s. b .estimate (lowered (b .places) a) (lowered (b .places) s);
+}

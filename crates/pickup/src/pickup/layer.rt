@@ -12,7 +12,11 @@ pub impl<'a, G: Ground> Ground for Pickup<'a, G> as PickupGround {
     ghost lawful = { λ s. layered-lawful (G·Ground .meaning (now (s .below))) (s .at) (G·Ground .lawful (now (s .below))) };
 
     fn places(&self) -> u32 {
-        if self.fits() { 2 * self.below.places() } else { 0 }
+        if self.fits() {
+            2 * self.below.places()
+        } else {
+            0
+        }
     }
 
     fn arcs(&self) -> u32 {
@@ -55,18 +59,40 @@ pub impl<'a, G: Ground> Ground for Pickup<'a, G> as PickupGround {
     }
 
     fn leaving_count(&self, place: u32) -> u32 {
-        0
+        match self.side(place) {
+            Some(side) => self.below.leaving_count(side.place) + u32::from(self.starts_at(place)),
+            None => 0,
+        }
     }
 
     fn entering_count(&self, place: u32) -> u32 {
-        0
+        match self.side(place) {
+            Some(side) => self.below.entering_count(side.place) + u32::from(self.ends_at(place)),
+            None => 0,
+        }
     }
 
     fn leaving(&self, place: u32, k: u32) -> Option<u32> {
-        None
+        let side = self.side(place)?;
+        match self.below.leaving(side.place, k) {
+            Some(copy) => Some(side.first + copy),
+            None => self.crossing(
+                self.starts_at(place),
+                k,
+                self.below.leaving_count(side.place),
+            ),
+        }
     }
 
     fn entering(&self, place: u32, k: u32) -> Option<u32> {
-        None
+        let side = self.side(place)?;
+        match self.below.entering(side.place, k) {
+            Some(copy) => Some(side.first + copy),
+            None => self.crossing(
+                self.ends_at(place),
+                k,
+                self.below.entering_count(side.place),
+            ),
+        }
     }
 }

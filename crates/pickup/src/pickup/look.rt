@@ -2,7 +2,8 @@
 ghost use mathlib.Core.Path.{_≡_};
 ghost use lib.Dec.{eqb, ltb, leb};
 ghost use mathlib.Core.Bool.{_&&_};
-ghost use Prim.Native.Nat.{_+_};
+ghost use Prim.Native.Nat.{_+_, _*_};
+ghost use Rattle.ground.specs.Questions.{known};
 ghost use Rattle.pickup.specs.Layers.{fits as roomFor};
 ghost use Rattle.pickup.specs.Parts.{partOf, SideOf};
 use crate::parts::Part;
@@ -24,6 +25,31 @@ impl<'a, G: Ground> Pickup<'a, G> {
         ensures { λ r. ⌜ r ≡ ltb (now (self .entry) .at) (G·Ground .meaning (now (now (self .entry) .below)) .places) ⌝ }
     {
         self.at < self.below.places()
+    }
+
+    // Whether the pick-up arc leaves a place.
+    pub(super) fn starts_at(&self, place: u32) -> bool
+        ensures { λ r. ⌜ r ≡ (ltb (now (self .entry) .at) (G·Ground .meaning (now (now (self .entry) .below)) .places) && eqb (now (self .entry) .at) place) ⌝ }
+    {
+        self.crosses() && self.at == place
+    }
+
+    // Whether the pick-up arc enters a place.
+    pub(super) fn ends_at(&self, place: u32) -> bool
+        ensures { λ r. ⌜ r ≡ (ltb (now (self .entry) .at) (G·Ground .meaning (now (now (self .entry) .below)) .places) && eqb (G·Ground .meaning (now (now (self .entry) .below)) .places + now (self .entry) .at) place) ⌝ }
+    {
+        self.crosses() && self.below.places() + self.at == place
+    }
+
+    // The pick-up arc as the k-th at a place: it stands after the copies, where it is there at all.
+    pub(super) fn crossing(&self, here: bool, k: u32, copies: u32) -> Option<u32>
+        ensures { λ r. ⌜ r ≡ known (here && eqb k copies) (2 * G·Ground .meaning (now (now (self .entry) .below)) .arcs) ⌝ }
+    {
+        if here && k == copies {
+            Some(2 * self.below.arcs())
+        } else {
+            None
+        }
     }
 
     // Which arc of the layer a number is, if there is one.
