@@ -44,9 +44,9 @@ impl Grid {
         requires { ⌜ cell .row < now self .rows ⌝ ∗ ⌜ cell .column < now self .columns ⌝ ∗ ⌜ direction < 8 ⌝ }
         ensures { λ r. ⌜ r ≡ neighbourOf (now (self .entry) .rows) (now (self .entry) .columns) (cell .row) (cell .column) direction ⌝ }
     {
-        let step = step_in(direction);
-        let to_row = moved(self.rows, cell.row, step.row)?;
-        let to_column = moved(self.columns, cell.column, step.column)?;
+        let (by_row, by_column, _) = step_in(direction);
+        let to_row = moved(self.rows, cell.row, by_row)?;
+        let to_column = moved(self.columns, cell.column, by_column)?;
         Some(to_row * self.columns + to_column)
     }
 
@@ -57,11 +57,15 @@ impl Grid {
         requires { ⌜ cell .column ≡ place % now self .columns ⌝ ∗ ⌜ cell .column < now self .columns ⌝ }
         ensures { λ r. ⌜ r ≡ entering (now (self .entry) .rows) (now (self .entry) .columns) place i ⌝ }
     {
-        let Entry { direction, own } = entry_at(i);
-        match (self.beside(cell, direction), own) {
-            (Some(from), false) => Some(8 * from + (direction as u32 + 4) % 8),
-            (None, true) => Some(8 * place + direction as u32),
-            _ => None,
+        match entry_at(i) {
+            Entry::Back(direction) => match self.beside(cell, direction) {
+                Some(from) => Some(8 * from + (direction as u32 + 4) % 8),
+                None => None,
+            },
+            Entry::Own(direction) => match self.beside(cell, direction) {
+                Some(_) => None,
+                None => Some(8 * place + direction as u32),
+            },
         }
     }
 }

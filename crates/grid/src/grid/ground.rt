@@ -33,11 +33,11 @@ pub impl Ground for Grid as GridGround {
     }
 
     fn least(&self, arc: u32) -> Option<u32> {
-        if arc < self.arcs() {
-            Some(step_in(arc as usize % 8).factor * self.base)
-        } else {
-            None
+        if arc >= self.arcs() {
+            return None;
         }
+        let (_, _, factor) = step_in(arc as usize % 8);
+        Some(factor * self.base)
     }
 
     fn estimate(&self, from: u32, to: u32) -> Option<u32> {
@@ -55,8 +55,9 @@ pub impl Ground for Grid as GridGround {
         if place < self.places() { 8 } else { 0 }
     }
 
+    // An arc enters for each direction: back from the neighbour there, or the cell's own where there is none.
     fn entering_count(&self, place: u32) -> u32 {
-        if place < self.places() { 8 } else { 0 }
+        self.leaving_count(place)
     }
 
     fn leaving(&self, place: u32, k: u32) -> Option<u32> {
