@@ -1,6 +1,6 @@
 -- The eight arcs that enter a cell: the table of entries offers them in rising number, and no others enter.
 use mathlib.Core.Bool.{Bool, true, false, cond, _&&_}
-use mathlib.Core.List.{List}
+use mathlib.Core.List.{List, []}
 use mathlib.Core.Logic.{_⊎_, inl, inr}
 use mathlib.Core.Path.{_≡_, refl, sym, _∙_, ap, ap₂, subst}
 use native.Mathlib.Nat.{mul-comm, mul-le-mul-right, add-mul, div-add-mod'}
@@ -10,18 +10,19 @@ use lib.Dec.{eqb, ltb}
 use lib.IntN.{ℤ, pos, negsuc}
 use lib.ListN.{length}
 use Rattle.std.proofs.shelf.Bits.{mul-add-lt}
-use Rattle.std.proofs.shelf.Tests.{eq-eqb, eqb-true, ltb-true, and-parts, cases-order, cases-lt}
+use Rattle.std.proofs.shelf.Tests.{eq-eqb, eqb-true, ltb-true, and-parts, cases-order, cases-lt, lt-ltb, le-ltb, cond-true, cond-false}
 use Rattle.std.specs.Options.{valueOr}
 use Rattle.std.specs.declared.option.Option.{Option}
 use Rattle.std.specs.declared.option.Option.the-variants.{Some, None}
 use Rattle.ground.proofs.ArcsAt.{arcsAt-beyond}
 use Rattle.ground.proofs.Offered.{offered, Offers, arcsAt-offered, ones, length-offered}
 use Rattle.ground.specs.KnownLaws.{not-both, one-answer}
+use Rattle.ground.specs.Meanings.{Lawful}
 use Rattle.ground.specs.Questions.{arcsAt, arcsFrom, arcsInto}
 use Rattle.grid.proofs.Leaving.{leaving-are, leaving-count}
 use Rattle.grid.specs.Compass.{stepOf, neighbour}
 use Rattle.grid.specs.Entries.{entryAt, towards, arcOf, entering}
-use Rattle.grid.specs.GridLaws.{Moved, Beside, by-direction, row-of, column-of, neighbour-is, neighbour-to, beside-row, beside-column, beside-in, gridded-lawful}
+use Rattle.grid.specs.GridLaws.{Moved, Beside, by-direction, row-of, column-of, neighbour-is, neighbour-to, beside-row, beside-column, beside-in, few, gridded-lawful}
 use Rattle.grid.specs.Grids.{gridded}
 use Rattle.grid.specs.declared.entries.Entry.{Entry}
 use Rattle.grid.specs.declared.entries.Entry.the-variants.{Back, Own}
@@ -75,7 +76,7 @@ all-at f (suc n) i e l =
 ranked : (i k : ℕ) → i < k → k < 16 → rank (entryAt i) < rank (entryAt k)
 ranked i k l h = ltb-true (rank (entryAt i)) (rank (entryAt k)) (all-at (λ i. ltb (rank (entryAt i)) (rank (entryAt k))) k i (all-at (λ k. all (λ i. ltb (rank (entryAt i)) (rank (entryAt k))) k) 16 k refl h) l)
 
-directed : (i : ℕ) → i < 16 → towards (entryAt i) < 8
+pub directed : (i : ℕ) → i < 16 → towards (entryAt i) < 8
 directed i l = ltb-true (towards (entryAt i)) 8 (all-at (λ i. ltb (towards (entryAt i)) 8) 16 i refl l)
 
 module _ (rows columns p : ℕ) (some : 1 ≤ columns) (here : p < rows * columns) where
@@ -208,12 +209,28 @@ module _ (rows columns p : ℕ) (some : 1 ≤ columns) (here : p < rows * column
 pub near : (rows columns p d s : ℕ) → 1 ≤ columns → p < rows * columns → neighbour rows columns p d ≡ Some s → s < rows * columns
 near rows columns p d s some h n = beside-in rows columns some p d s (neighbour-is rows columns some p d s h n)
 
--- as many arcs enter a cell as leave it
-pub as-many : (g : Grid) (p : ℕ) → length (arcsFrom (gridded (g .rows) (g .columns) (g .base)) p) ≡ length (arcsInto (gridded (g .rows) (g .columns) (g .base)) p)
-as-many g p =
-    let m = gridded (g .rows) (g .columns) (g .base) in
-    let l = gridded-lawful (g .rows) (g .columns) (g .base) (g .someRows) (g .fewRows) (g .someColumns) (g .fewColumns) (g .lowBase) (g .highBase) in
-    elim (cases-lt p (g .rows * g .columns)) [
-      | inl h ↦ ap length (leaving-are (g .rows * g .columns) p h) ∙ leaving-count (g .rows * g .columns) p h ∙ sym (ap length (entering-are (g .rows) (g .columns) p (g .someColumns) h) ∙ entering-count (g .rows) (g .columns) p (g .someColumns) h)
-      | inr h ↦ ap length (arcsAt-beyond (m .tail) (m .arcs) (m .places) p (l .tail-in) h ∙ sym (arcsAt-beyond (m .head) (m .arcs) (m .places) p (l .head-in) h))
-    ]
+-- how many arcs leave and enter a place of a grid
+module _ (g : Grid) (p : ℕ) where
+  lawful : Lawful (gridded (g .rows) (g .columns) (g .base))
+  lawful = gridded-lawful (g .rows) (g .columns) (g .base) (g .someRows) (g .fewRows) (g .someColumns) (g .fewColumns) (g .lowBase) (g .highBase)
+
+  degree : (xs : List ℕ) → (p < g .rows * g .columns → length xs ≡ 8) → (g .rows * g .columns ≤ p → xs ≡ []) → cond (ltb p (g .rows * g .columns)) 8 0 ≡ length xs
+  degree xs here beyond =
+      elim (cases-lt p (g .rows * g .columns)) [
+        | inl h ↦ cond-true {A = ℕ} (ltb p (g .rows * g .columns)) 8 0 (lt-ltb p (g .rows * g .columns) h) ∙ sym (here h)
+        | inr h ↦ cond-false {A = ℕ} (ltb p (g .rows * g .columns)) 8 0 (le-ltb p (g .rows * g .columns) h) ∙ sym (ap length (beyond h))
+      ]
+
+  pub degree-from : cond (ltb p (g .rows * g .columns)) 8 0 ≡ length (arcsFrom (gridded (g .rows) (g .columns) (g .base)) p)
+  degree-from =
+      let m = gridded (g .rows) (g .columns) (g .base) in
+      degree (arcsFrom m p) (λ h. ap length (leaving-are (g .rows * g .columns) p h) ∙ leaving-count (g .rows * g .columns) p h) (arcsAt-beyond (m .tail) (m .arcs) (m .places) p (lawful .tail-in))
+
+  pub degree-into : cond (ltb p (g .rows * g .columns)) 8 0 ≡ length (arcsInto (gridded (g .rows) (g .columns) (g .base)) p)
+  degree-into =
+      let m = gridded (g .rows) (g .columns) (g .base) in
+      degree (arcsInto m p) (λ h. ap length (entering-are (g .rows) (g .columns) p (g .someColumns) h) ∙ entering-count (g .rows) (g .columns) p (g .someColumns) h) (arcsAt-beyond (m .head) (m .arcs) (m .places) p (lawful .head-in))
+
+-- a grid has few cells
+pub few-cells : (g : Grid) → g .rows * g .columns ≤ 16384
+few-cells g = few (g .rows) (g .columns) (g .base) (g .someRows) (g .fewRows) (g .someColumns) (g .fewColumns) (g .lowBase) (g .highBase)

@@ -3,6 +3,7 @@ ghost use Rattle.grid.specs.Grids.{gridded};
 ghost use Rattle.grid.specs.GridLaws.{gridded-lawful};
 use crate::compass::step_in;
 use crate::grid::Grid;
+use crate::grid::cells::arc_from;
 use ground::ground::Ground;
 
 pub impl Ground for Grid as GridGround {
@@ -52,17 +53,17 @@ pub impl Ground for Grid as GridGround {
     }
 
     fn leaving_count(&self, place: u32) -> u32 {
-        if place < self.places() { 8 } else { 0 }
+        self.degree(place)
     }
 
-    // An arc enters for each direction: back from the neighbour there, or the cell's own where there is none.
+    // In each direction there is an arc back from the neighbour, or the cell's own where there is none.
     fn entering_count(&self, place: u32) -> u32 {
-        self.leaving_count(place)
+        self.degree(place)
     }
 
     fn leaving(&self, place: u32, k: u32) -> Option<u32> {
         if place < self.places() && k < 8 {
-            Some(8 * place + k)
+            Some(arc_from(place, k))
         } else {
             None
         }

@@ -2,6 +2,7 @@ use borrow.Author.Needs.{needs}
 use mathlib.Core.Path.{refl, sym, _∙_, ap, ap₂}
 use mir.Syntax.{w32}
 use mir.Val.{SFits, toZ, ofZ}
+use Rattle.std.specs.declared.option.Option.the-variants.{Some}
 use Rattle.grid.proofs.Beside.{found}
 use Rattle.grid.proofs.grid.Grid.beside.Needs as need
 use Rattle.grid.specs.Compass.{moved, placeAt}
@@ -12,7 +13,8 @@ returns c =
     let s = c .step-in-by-row .result in
     let f : SFits w32 (s .0) = search needs in
     let h : SFits w32 (s .1) = search needs in
-    sym (found (g .rows) (g .columns) (c .args .cell .row) (c .args .cell .column) (c .args .direction) s (c .moved .result) (c .moved-2 .result) (c .step-in-by-row .ensures) f h (c .moved .ensures) (c .moved-2 .ensures)
+    ap Some (c .place-at .ensures)
+    ∙ sym (found (g .rows) (g .columns) (c .args .cell .row) (c .args .cell .column) (c .args .direction) s (c .moved .result) (c .moved-2 .result) (c .step-in-by-row .ensures) f h (c .moved .ensures) (c .moved-2 .ensures)
     ∙ ap₂ (placeAt (g .columns)) (c .in-Continue-to-row .was tt) (c .in-Continue-to-column .was tt))
 
 pub returns-in-Break-to-row : need.returns-in-Break-to-row
