@@ -24,15 +24,12 @@ module _ (b : Meaning) (q : ℕ) (l : Lawful b) (some : 0 < layered b q .places)
     head-is : layer .head j ≡ t
 
   all-places : layer .places ≡ 2 * b .places
-  unfolding layered
   all-places = cond-true (fits b) (2 * b .places) 0 (fitting b q (2 * b .places) 0 some .0)
 
   all-arcs : layer .arcs ≡ 2 * b .arcs + crossings b q
-  unfolding layered
   all-arcs = cond-true (fits b) (2 * b .arcs + crossings b q) 0 (fitting b q (2 * b .places) 0 some .0)
 
   ends-before : (i : ℕ) → i < b .arcs → Ends i (b .tail i) (b .head i)
-  unfolding layered
   ends-before i h = record {
     there = omega (arith, all-arcs);
     tail-is = copied-before (b .arcs) (b .tail) (λ j. b .places + b .tail j) q i h;
@@ -40,7 +37,6 @@ module _ (b : Meaning) (q : ℕ) (l : Lawful b) (some : 0 < layered b q .places)
   }
 
   ends-after : (i : ℕ) → i < b .arcs → Ends (b .arcs + i) (b .places + b .tail i) (b .places + b .head i)
-  unfolding layered
   ends-after i h = record {
     there = omega (arith, all-arcs);
     tail-is = copied-after (b .arcs) (b .tail) (λ j. b .places + b .tail j) q i h;
@@ -48,7 +44,6 @@ module _ (b : Meaning) (q : ℕ) (l : Lawful b) (some : 0 < layered b q .places)
   }
 
   ends-pickup : q < b .places → Ends (2 * b .arcs) q (b .places + q)
-  unfolding layered
   ends-pickup h = record {
     there = omega (arith, all-arcs, cond-true {A = ℕ} (ltb q (b .places)) 1 0 (lt-ltb q (b .places) h));
     tail-is = copied-own (b .arcs) (b .tail) (λ j. b .places + b .tail j) q (2 * b .arcs) (omega arith);

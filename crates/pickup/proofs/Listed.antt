@@ -136,13 +136,10 @@ first-few b p first e = at (ltb p (b .places)) e
 
 module _ (b : Meaning) (q : ℕ) (l : Lawful b) (p place first : ℕ) (h : p < layered b q .places) (e : place ≡ lowered (b .places) p) (f : first ≡ cond (ltb p (b .places)) 0 (b .arcs)) where
   all-arcs : layered b q .arcs ≡ 2 * b .arcs + crossings b q
-  unfolding layered
   all-arcs = cond-true (fits b) (2 * b .arcs + crossings b q) 0 (fitting b q (2 * b .places) p h .0)
 
   pub layer-from : arcsFrom (layered b q) p ≡ map (λ j. first + j) (arcsFrom b place) ++ extra (ltb q (b .places) && eqb q p) (2 * b .arcs)
-  unfolding layered
   layer-from = ap (λ m. arcsAt (layered b q .tail) m p) all-arcs ∙ listed b q (b .tail) q (l .tail-in) p place first e f
 
   pub layer-into : arcsInto (layered b q) p ≡ map (λ j. first + j) (arcsInto b place) ++ extra (ltb q (b .places) && eqb (b .places + q) p) (2 * b .arcs)
-  unfolding layered
   layer-into = ap (λ m. arcsAt (layered b q .head) m p) all-arcs ∙ listed b q (b .head) (b .places + q) (l .head-in) p place first e f

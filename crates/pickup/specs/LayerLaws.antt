@@ -57,11 +57,9 @@ module _ (b : Meaning) (q : ℕ) where
       at false e h = absurd (omega arith)
 
   pub place-of : (p : ℕ) → p < layered b q .places → p < 2 * b .places
-  unfolding layered
   place-of p h = fitting (2 * b .places) p h .1
 
   pub part-of : (j : ℕ) → j < layered b q .arcs → Kind b q j
-  unfolding layered
   part-of j h = at (fitting (2 * b .arcs + crossings b q) j h .1)
     where
       last : (t : Bool) → ltb q (b .places) ≡ t → j < 2 * b .arcs + cond t 1 0 → 2 * b .arcs ≤ j → Kind b q j
@@ -135,13 +133,12 @@ module _ (b : Meaning) (q : ℕ) (l : Lawful b) where
       at false = omega arith
 
   whole : (j p : ℕ) → j < layered b q .arcs → p < 2 * b .places → p < layered b q .places
-  unfolding layered
   whole j p h k =
       let f = fitting b q (2 * b .arcs + crossings b q) j h .0 in
       subst (λ (z : ℕ). p < z) (sym (cond-true (fits b) (2 * b .places) 0 f)) k
 
   pub layered-lawful : Lawful (layered b q)
-  unfolding layered tails heads leasts
+  unfolding tails heads leasts
   layered-lawful = record {
     few-places = small (2 * b .places) 16384 (λ e. room e .0);
     few-arcs = small (2 * b .arcs + crossings b q) 131072 (λ e. omega (arith, room e, one-crossing));

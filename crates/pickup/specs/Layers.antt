@@ -21,7 +21,7 @@ abbrev pub lowered : ℕ → ℕ → ℕ
 lowered places p = cond (ltb p places) p (p - places)
 
 -- The layer over b with the pick-up at q: places p and n + p, arcs j and m + j, and arc 2m from q to n + q.
-unfoldable pub layered : Meaning → ℕ → Meaning
+abbrev pub layered : Meaning → ℕ → Meaning
 layered b q = record {
   places = cond (fits b) (2 * b .places) 0;
   arcs = cond (fits b) (2 * b .arcs + crossings b q) 0;

@@ -32,7 +32,7 @@ pub impl<'a, G: Ground> Ground for Pickup<'a, G> as PickupGround {
     fn tail(&self, arc: u32) -> Option<u32> {
         match self.part(arc)? {
             Part::Before(copy) => self.below.tail(copy),
-            Part::After(copy) => Some(self.below.places() + self.below.tail(copy)?),
+            Part::After(copy) => Some(self.raised(self.below.tail(copy)?)),
             Part::Crossing => Some(self.at),
         }
     }
@@ -40,8 +40,8 @@ pub impl<'a, G: Ground> Ground for Pickup<'a, G> as PickupGround {
     fn head(&self, arc: u32) -> Option<u32> {
         match self.part(arc)? {
             Part::Before(copy) => self.below.head(copy),
-            Part::After(copy) => Some(self.below.places() + self.below.head(copy)?),
-            Part::Crossing => Some(self.below.places() + self.at),
+            Part::After(copy) => Some(self.raised(self.below.head(copy)?)),
+            Part::Crossing => Some(self.raised(self.at)),
         }
     }
 
@@ -75,7 +75,7 @@ pub impl<'a, G: Ground> Ground for Pickup<'a, G> as PickupGround {
     fn leaving(&self, place: u32, k: u32) -> Option<u32> {
         let side = self.side(place)?;
         match self.below.leaving(side.place, k) {
-            Some(copy) => Some(side.first + copy),
+            Some(arc) => Some(side.copy_of(arc)),
             None => self.crossing(
                 self.starts_at(place),
                 k,
@@ -87,7 +87,7 @@ pub impl<'a, G: Ground> Ground for Pickup<'a, G> as PickupGround {
     fn entering(&self, place: u32, k: u32) -> Option<u32> {
         let side = self.side(place)?;
         match self.below.entering(side.place, k) {
-            Some(copy) => Some(side.first + copy),
+            Some(arc) => Some(side.copy_of(arc)),
             None => self.crossing(
                 self.ends_at(place),
                 k,

@@ -2,7 +2,7 @@
 ghost use mathlib.Core.Path.{_≡_};
 ghost use lib.Dec.{eqb, ltb, leb};
 ghost use mathlib.Core.Bool.{_&&_};
-ghost use Prim.Native.Nat.{_+_, _*_};
+ghost use Prim.Native.Nat.{_+_, _*_, _<_};
 ghost use Rattle.ground.specs.Questions.{known};
 ghost use Rattle.pickup.specs.Layers.{fits as roomFor};
 ghost use Rattle.pickup.specs.Parts.{partOf, SideOf};
@@ -27,6 +27,14 @@ impl<'a, G: Ground> Pickup<'a, G> {
         self.at < self.below.places()
     }
 
+    // A place of the ground below, as it stands after the pick-up.
+    pub(super) fn raised(&self, place: u32) -> u32
+        requires { ⌜ place < 16384 ⌝ }
+        ensures { λ r. ⌜ r ≡ G·Ground .meaning (now (now (self .entry) .below)) .places + place ⌝ }
+    {
+        self.below.places() + place
+    }
+
     // Whether the pick-up arc leaves a place.
     pub(super) fn starts_at(&self, place: u32) -> bool
         ensures { λ r. ⌜ r ≡ (ltb (now (self .entry) .at) (G·Ground .meaning (now (now (self .entry) .below)) .places) && eqb (now (self .entry) .at) place) ⌝ }
@@ -38,7 +46,7 @@ impl<'a, G: Ground> Pickup<'a, G> {
     pub(super) fn ends_at(&self, place: u32) -> bool
         ensures { λ r. ⌜ r ≡ (ltb (now (self .entry) .at) (G·Ground .meaning (now (now (self .entry) .below)) .places) && eqb (G·Ground .meaning (now (now (self .entry) .below)) .places + now (self .entry) .at) place) ⌝ }
     {
-        self.crosses() && self.below.places() + self.at == place
+        self.crosses() && self.raised(self.at) == place
     }
 
     // The pick-up arc as the k-th at a place: it stands after the copies, where it is there at all.

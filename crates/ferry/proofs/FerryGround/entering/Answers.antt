@@ -12,5 +12,6 @@ returns-then-k-eq0 c = first (arcsInto crossing (c .args .place)) (1 - c .args .
 pub returns-else-place-lt2 : need.returns-else-place-lt2
 returns-else-place-lt2 c =
     elim (c .else-place-lt2 .either) [
-      inl h ↦ past (arcsInto crossing (c .args .place)) (1 - c .args .place) (c .args .k) (to-bank (c .args .place) (h .0)) (h .1)
-    | inr h ↦ nowhere (arcsInto crossing (c .args .place)) (c .args .k) (to-nowhere (c .args .place) h) ]
+      | inl h ↦ past (arcsInto crossing (c .args .place)) (1 - c .args .place) (c .args .k) (to-bank (c .args .place) (h .0)) (h .1)
+      | inr h ↦ nowhere (arcsInto crossing (c .args .place)) (c .args .k) (to-nowhere (c .args .place) h)
+    ]

@@ -11,5 +11,6 @@ returns-then-k-eq0 c = first (arcsFrom crossing (c .args .place)) (c .args .plac
 pub returns-else-place-lt2 : need.returns-else-place-lt2
 returns-else-place-lt2 c =
     elim (c .else-place-lt2 .either) [
-      inl h ↦ past (arcsFrom crossing (c .args .place)) (c .args .place) (c .args .k) (from-bank (c .args .place) (h .0)) (h .1)
-    | inr h ↦ nowhere (arcsFrom crossing (c .args .place)) (c .args .k) (from-nowhere (c .args .place) h) ]
+      | inl h ↦ past (arcsFrom crossing (c .args .place)) (c .args .place) (c .args .k) (from-bank (c .args .place) (h .0)) (h .1)
+      | inr h ↦ nowhere (arcsFrom crossing (c .args .place)) (c .args .k) (from-nowhere (c .args .place) h)
+    ]

@@ -4,6 +4,7 @@ use mathlib.Core.Path.{_≡_, sym, ap, ap₂, _∙_}
 use Prim.Native.Nat.{_+_, _*_}
 use lib.Dec.{eqb}
 use lib.ListN.{length}
+use Rattle.std.specs.declared.option.Option.the-variants.{Some}
 use Rattle.std.specs.shelf.Maps.{nth}
 use Rattle.ground.proofs.ArcsAt.{arcsAt-beyond, arcsAt-at}
 use Rattle.ground.specs.Questions.{known, arcsFrom}
@@ -19,12 +20,15 @@ returns-in-Break-side g c =
     let l = layered-lawful b (c .args .self .now .at) (g .G·Ground .lawful (c .args .self .now .below .now)) in
     c .from-residual .ensures ∙ sym (ap (λ xs. nth xs (c .args .k)) (arcsAt-beyond (m .tail) (m .arcs) (m .places) (c .args .place) (l .tail-in) (c .in-Break-side .ensures tt)))
 
-pub add-result : need.add-result
-add-result g c =
+pub copy-of-requires : need.copy-of-requires
+copy-of-requires g c κs =
     let b = g .G·Ground .meaning (c .args .self .now .below .now) in
     let l = g .G·Ground .lawful (c .args .self .now .below .now) in
     let s = c .in-Continue-side .side in
-    omega (arith, l .few-arcs, arcsAt-at (b .tail) (b .arcs) (s .place) (c .args .k) (c .in-Some .copy) (sym (c .leaving .ensures) ∙ c .in-Some .is), first-few b (c .args .place) (s .first) (c .in-Continue-side .ensures tt .2))
+    let few = l .few-arcs in
+    let under = arcsAt-at (b .tail) (b .arcs) (s .place) (c .args .k) (c .in-Some .arc) (sym (c .leaving .ensures) ∙ c .in-Some .is) in
+    let low = first-few b (c .args .place) (s .first) (c .in-Continue-side .ensures tt .2) in
+    (omega arith, omega arith)
 
 pub returns-in-Some : need.returns-in-Some
 returns-in-Some g c =
@@ -32,8 +36,9 @@ returns-in-Some g c =
     let l = g .G·Ground .lawful (c .args .self .now .below .now) in
     let s = c .in-Continue-side .side in
     let o = c .in-Continue-side .ensures tt in
-    sym (ap (λ xs. nth xs (c .args .k)) (layer-from b (c .args .self .now .at) l (c .args .place) (s .place) (s .first) (o .0) (o .1) (o .2))
-    ∙ nth-copy (λ j. s .first + j) (arcsFrom b (s .place)) _ (2 * b .arcs) (c .args .k) (c .in-Some .copy) (sym (c .leaving .ensures) ∙ c .in-Some .is))
+    ap Some (c .copy-of .ensures)
+    ∙ sym (ap (λ xs. nth xs (c .args .k)) (layer-from b (c .args .self .now .at) l (c .args .place) (s .place) (s .first) (o .0) (o .1) (o .2))
+    ∙ nth-copy (λ j. s .first + j) (arcsFrom b (s .place)) _ (2 * b .arcs) (c .args .k) (c .in-Some .arc) (sym (c .leaving .ensures) ∙ c .in-Some .is))
 
 pub returns-in-None : need.returns-in-None
 returns-in-None g c =
