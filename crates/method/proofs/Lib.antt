@@ -11,3 +11,4 @@ pub mod Arriving
 pub mod Ending
 pub mod Reaching
 pub mod Promised
+pub mod Chosen

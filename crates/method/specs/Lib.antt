@@ -5,3 +5,4 @@ pub mod Turns
 pub mod Calls
 pub mod Pasts
 pub mod Promise
+pub mod Laws
