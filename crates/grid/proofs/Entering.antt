@@ -1,6 +1,6 @@
 -- The eight arcs that enter a cell: the table of entries offers them in rising number, and no others enter.
 use mathlib.Core.Bool.{Bool, true, false, cond, _&&_}
-use mathlib.Core.List.{List}
+use mathlib.Core.List.{List, []}
 use mathlib.Core.Logic.{_⊎_, inl, inr}
 use mathlib.Core.Path.{_≡_, refl, sym, _∙_, ap, ap₂, subst}
 use native.Mathlib.Nat.{mul-comm, mul-le-mul-right, add-mul, div-add-mod'}
@@ -10,33 +10,36 @@ use lib.Dec.{eqb, ltb}
 use lib.IntN.{ℤ, pos, negsuc}
 use lib.ListN.{length}
 use Rattle.std.proofs.shelf.Bits.{mul-add-lt}
-use Rattle.std.proofs.shelf.Tests.{eq-eqb, eqb-true, ltb-true, and-parts, cases-order, cases-bool}
+use Rattle.std.proofs.shelf.Tests.{eq-eqb, eqb-true, ltb-true, and-parts, cases-order, cases-lt, lt-ltb, le-ltb, cond-true, cond-false}
 use Rattle.std.specs.Options.{valueOr}
 use Rattle.std.specs.declared.option.Option.{Option}
 use Rattle.std.specs.declared.option.Option.the-variants.{Some, None}
+use Rattle.ground.proofs.ArcsAt.{arcsAt-beyond}
 use Rattle.ground.proofs.Offered.{offered, Offers, arcsAt-offered, ones, length-offered}
 use Rattle.ground.specs.KnownLaws.{not-both, one-answer}
-use Rattle.ground.specs.Questions.{arcsAt}
+use Rattle.ground.specs.Meanings.{Lawful}
+use Rattle.ground.specs.Questions.{arcsAt, arcsFrom, arcsInto}
+use Rattle.grid.proofs.Leaving.{leaving-are, leaving-count}
 use Rattle.grid.specs.Compass.{stepOf, neighbour}
-use Rattle.grid.specs.Entries.{back, loop, entryAt, arcOf, entering}
-use Rattle.grid.specs.GridLaws.{Moved, Beside, by-direction, row-of, column-of, neighbour-is, neighbour-to, beside-row, beside-column, beside-in}
+use Rattle.grid.specs.Entries.{entryAt, towards, arcOf, entering}
+use Rattle.grid.specs.GridLaws.{Moved, Beside, by-direction, row-of, column-of, neighbour-is, neighbour-to, beside-row, beside-column, beside-in, few, gridded-lawful}
+use Rattle.grid.specs.Grids.{gridded}
 use Rattle.grid.specs.declared.entries.Entry.{Entry}
+use Rattle.grid.specs.declared.entries.Entry.the-variants.{Back, Own}
+use Rattle.grid.specs.declared.grid.Grid.{Grid}
 
 -- a step by how much it is above -1
 abbrev up : ℤ → ℕ
 up (pos n) = n + 1
 up (negsuc n) = 0
 
-opposite : ℕ → ℕ
-opposite d = (d + 4) % 8
-
 -- what the directions have in common
 record Direction (d : ℕ) : Type 0 where
-  row-up : (at x : ℕ) → Moved at x (stepOf d .row) → x + 1 ≡ at + up (stepOf d .row)
-  column-up : (at x : ℕ) → Moved at x (stepOf d .column) → x + 1 ≡ at + up (stepOf d .column)
-  column-small : up (stepOf d .column) ≤ 2
-  row-back : (at x : ℕ) → Moved at x (stepOf d .row) → Moved x at (stepOf ((d + 4) % 8) .row)
-  column-back : (at x : ℕ) → Moved at x (stepOf d .column) → Moved x at (stepOf ((d + 4) % 8) .column)
+  row-up : (at x : ℕ) → Moved at x (stepOf d .0) → x + 1 ≡ at + up (stepOf d .0)
+  column-up : (at x : ℕ) → Moved at x (stepOf d .1) → x + 1 ≡ at + up (stepOf d .1)
+  column-small : up (stepOf d .1) ≤ 2
+  row-back : (at x : ℕ) → Moved at x (stepOf d .0) → Moved x at (stepOf ((d + 4) % 8) .0)
+  column-back : (at x : ℕ) → Moved at x (stepOf d .1) → Moved x at (stepOf ((d + 4) % 8) .1)
 
 directions : (d : ℕ) → d < 8 → Direction d
 directions =
@@ -44,13 +47,16 @@ directions =
 
 -- where an entry's arc starts, by how much the row and the column there are above those before the cell; and its direction
 abbrev rowUp : Entry → ℕ
-rowUp e = cond (e .own) 1 (up (stepOf (e .direction) .row))
+rowUp (Back d) = up (stepOf d .0)
+rowUp (Own d) = 1
 
 abbrev columnUp : Entry → ℕ
-columnUp e = cond (e .own) 1 (up (stepOf (e .direction) .column))
+columnUp (Back d) = up (stepOf d .1)
+columnUp (Own d) = 1
 
 abbrev leaves : Entry → ℕ
-leaves e = cond (e .own) (e .direction) ((e .direction + 4) % 8)
+leaves (Back d) = (d + 4) % 8
+leaves (Own d) = d
 
 -- the order of the arcs of two entries
 abbrev rank : Entry → ℕ
@@ -70,8 +76,8 @@ all-at f (suc n) i e l =
 ranked : (i k : ℕ) → i < k → k < 16 → rank (entryAt i) < rank (entryAt k)
 ranked i k l h = ltb-true (rank (entryAt i)) (rank (entryAt k)) (all-at (λ i. ltb (rank (entryAt i)) (rank (entryAt k))) k i (all-at (λ k. all (λ i. ltb (rank (entryAt i)) (rank (entryAt k))) k) 16 k refl h) l)
 
-pub directed : (i : ℕ) → i < 16 → entryAt i .direction < 8
-directed i l = ltb-true (entryAt i .direction) 8 (all-at (λ i. ltb (entryAt i .direction) 8) 16 i refl l)
+pub directed : (i : ℕ) → i < 16 → towards (entryAt i) < 8
+directed i l = ltb-true (towards (entryAt i)) 8 (all-at (λ i. ltb (towards (entryAt i)) 8) 16 i refl l)
 
 module _ (rows columns p : ℕ) (some : 1 ≤ columns) (here : p < rows * columns) where
   -- x is the arc of the entry e
@@ -86,27 +92,30 @@ module _ (rows columns p : ℕ) (some : 1 ≤ columns) (here : p < rows * column
     column-small : columnUp e ≤ 2
     leaves-small : leaves e < 8
 
-  -- the cases of an entry
-  by-entry : (P : Entry → Option ℕ → Type 0) (d : ℕ) (own : Bool) (x : ℕ) → ((s : ℕ) → neighbour rows columns p d ≡ Some s → x ≡ 8 * s + (d + 4) % 8 → P (back d) (Some x)) → (neighbour rows columns p d ≡ None → x ≡ 8 * p + d → P (loop d) (Some x)) → arcOf p (record { direction = d; own = own }) (neighbour rows columns p d) ≡ Some x → P (record { direction = d; own = own }) (Some x)
-  by-entry P d own x near self = at (neighbour rows columns p d) own refl
+  -- the cases of an entry that has an arc
+  by-entry : (P : Entry → Type 0) (e : Entry) (x : ℕ) → ((d s : ℕ) → e ≡ Back d → neighbour rows columns p d ≡ Some s → x ≡ 8 * s + (d + 4) % 8 → P (Back d)) → ((d : ℕ) → e ≡ Own d → neighbour rows columns p d ≡ None → x ≡ 8 * p + d → P (Own d)) → arcOf p e (neighbour rows columns p (towards e)) ≡ Some x → P e
+  by-entry P (Back d) x near self = at (neighbour rows columns p d) refl
     where
-      at : (v : Option ℕ) (own : Bool) → neighbour rows columns p d ≡ v → arcOf p (record { direction = d; own = own }) v ≡ Some x → P (record { direction = d; own = own }) (Some x)
-      at (Some s) true v g = absurd (not-both None x g refl)
-      at (Some s) false v g = near s v (one-answer (Some x) x (8 * s + (d + 4) % 8) refl (sym g))
-      at None true v g = self v (one-answer (Some x) x (8 * p + d) refl (sym g))
-      at None false v g = absurd (not-both None x g refl)
+      at : (v : Option ℕ) → neighbour rows columns p d ≡ v → arcOf p (Back d) v ≡ Some x → P (Back d)
+      at (Some s) v g = near d s refl v (one-answer (Some x) x (8 * s + (d + 4) % 8) refl (sym g))
+      at None v g = absurd (not-both None x g refl)
+  by-entry P (Own d) x near self = at (neighbour rows columns p d) refl
+    where
+      at : (v : Option ℕ) → neighbour rows columns p d ≡ v → arcOf p (Own d) v ≡ Some x → P (Own d)
+      at (Some s) v g = absurd (not-both None x g refl)
+      at None v g = self d refl v (one-answer (Some x) x (8 * p + d) refl (sym g))
 
-  source : (d : ℕ) (own : Bool) (x : ℕ) → d < 8 → arcOf p (record { direction = d; own = own }) (neighbour rows columns p d) ≡ Some x → Source (record { direction = d; own = own }) x
-  source d own x l = by-entry (λ e v. Source e x) d own x near self
+  source : (e : Entry) (x : ℕ) → towards e < 8 → arcOf p e (neighbour rows columns p (towards e)) ≡ Some x → Source e x
+  source e x l = by-entry (λ e. Source e x) e x near self
     where
-      near : (s : ℕ) → neighbour rows columns p d ≡ Some s → x ≡ 8 * s + (d + 4) % 8 → Source (back d) x
-      near s n e =
+      near : (d s : ℕ) → e ≡ Back d → neighbour rows columns p d ≡ Some s → x ≡ 8 * s + (d + 4) % 8 → Source (Back d) x
+      near d s o n a =
           let b = neighbour-is rows columns some p d s here n in
-          let k = directions d l in
-          record { row = b .row; column = b .column; row-in = b .row-in; column-in = b .column-in; arc = e ∙ ap (λ z. 8 * z + (d + 4) % 8) (b .place); row-is = k .row-up (p / columns) (b .row) (b .row-moved); column-is = k .column-up (p % columns) (b .column) (b .column-moved); column-small = k .column-small; leaves-small = omega arith }
+          let k = directions d (omega (arith, ap towards o)) in
+          record { row = b .row; column = b .column; row-in = b .row-in; column-in = b .column-in; arc = a ∙ ap (λ z. 8 * z + (d + 4) % 8) (b .place); row-is = k .row-up (p / columns) (b .row) (b .row-moved); column-is = k .column-up (p % columns) (b .column) (b .column-moved); column-small = k .column-small; leaves-small = omega arith }
 
-      self : neighbour rows columns p d ≡ None → x ≡ 8 * p + d → Source (loop d) x
-      self n e = record { row = p / columns; column = p % columns; row-in = row-of rows columns some p here; column-in = column-of rows columns some p; arc = e ∙ ap (λ z. 8 * z + d) (sym (div-add-mod' p columns)); row-is = refl; column-is = refl; column-small = omega arith; leaves-small = l }
+      self : (d : ℕ) → e ≡ Own d → neighbour rows columns p d ≡ None → x ≡ 8 * p + d → Source (Own d) x
+      self d o n a = record { row = p / columns; column = p % columns; row-in = row-of rows columns some p here; column-in = column-of rows columns some p; arc = a ∙ ap (λ z. 8 * z + d) (sym (div-add-mod' p columns)); row-is = refl; column-is = refl; column-small = omega arith; leaves-small = omega (arith, ap towards o) }
 
   in-order : (e f : Entry) (x y : ℕ) → Source e x → Source f y → rank e < rank f → x < y
   in-order e f x y s t r = elim (cases-order (s .row) (t .row)) [
@@ -133,35 +142,35 @@ module _ (rows columns p : ℕ) (some : 1 ≤ columns) (here : p < rows * column
         row-in = row-of rows columns some a h;
         column-in = column-of rows columns some a;
         place = sym (div-add-mod' a columns);
-        row-moved = subst (λ (z : ℕ). Moved z (a / columns) (stepOf ((d + 4) % 8) .row)) (sym r) (k .row-back (a / columns) (b .row) (b .row-moved));
-        column-moved = subst (λ (z : ℕ). Moved z (a % columns) (stepOf ((d + 4) % 8) .column)) (sym c) (k .column-back (a % columns) (b .column) (b .column-moved));
+        row-moved = subst (λ (z : ℕ). Moved z (a / columns) (stepOf ((d + 4) % 8) .0)) (sym r) (k .row-back (a / columns) (b .row) (b .row-moved));
+        column-moved = subst (λ (z : ℕ). Moved z (a % columns) (stepOf ((d + 4) % 8) .1)) (sym c) (k .column-back (a % columns) (b .column) (b .column-moved));
       })
 
-  enters : (d : ℕ) (own : Bool) (x : ℕ) → d < 8 → arcOf p (record { direction = d; own = own }) (neighbour rows columns p d) ≡ Some x → heads x ≡ p
+  enters : (e : Entry) (x : ℕ) → towards e < 8 → arcOf p e (neighbour rows columns p (towards e)) ≡ Some x → heads x ≡ p
   unfolding heads
-  enters d own x l = by-entry (λ e v. heads x ≡ p) d own x near self
+  enters e x l = by-entry (λ _. heads x ≡ p) e x near self
     where
       of : (s d : ℕ) → x ≡ 8 * s + d → d < 8 → heads x ≡ valueOr (neighbour rows columns s d) s
-      of s d e l = ap₂ (λ a b. valueOr (neighbour rows columns a b) a) (omega arith) (omega arith)
+      of s d a l = ap₂ (λ a b. valueOr (neighbour rows columns a b) a) (omega arith) (omega arith)
 
-      near : (s : ℕ) → neighbour rows columns p d ≡ Some s → x ≡ 8 * s + (d + 4) % 8 → heads x ≡ p
-      near s n e = of s ((d + 4) % 8) e (omega arith) ∙ ap (λ v. valueOr v s) (back-again p d s l here n)
+      near : (d s : ℕ) → e ≡ Back d → neighbour rows columns p d ≡ Some s → x ≡ 8 * s + (d + 4) % 8 → heads x ≡ p
+      near d s o n a = of s ((d + 4) % 8) a (omega arith) ∙ ap (λ v. valueOr v s) (back-again p d s (omega (arith, ap towards o)) here n)
 
-      self : neighbour rows columns p d ≡ None → x ≡ 8 * p + d → heads x ≡ p
-      self n e = of p d e l ∙ ap (λ v. valueOr v p) n
+      self : (d : ℕ) → e ≡ Own d → neighbour rows columns p d ≡ None → x ≡ 8 * p + d → heads x ≡ p
+      self d o n a = of p d a (omega (arith, ap towards o)) ∙ ap (λ v. valueOr v p) n
 
   -- the entry of an arc back from a neighbour, and of an own arc
   back-entry : (d : ℕ) → d < 8 → (s : ℕ) → neighbour rows columns p ((d + 4) % 8) ≡ Some s → (i : ℕ) × (i < 16) × (entering rows columns p i ≡ Some (8 * s + d))
   back-entry =
       by-direction (λ d. (s : ℕ) → neighbour rows columns p ((d + 4) % 8) ≡ Some s → (i : ℕ) × (i < 16) × (entering rows columns p i ≡ Some (8 * s + d)))
-      (λ s n. (14, omega arith, ap (arcOf p (back 4)) n)) (λ s n. (13, omega arith, ap (arcOf p (back 5)) n)) (λ s n. (3, omega arith, ap (arcOf p (back 6)) n)) (λ s n. (0, omega arith, ap (arcOf p (back 7)) n))
-      (λ s n. (1, omega arith, ap (arcOf p (back 0)) n)) (λ s n. (2, omega arith, ap (arcOf p (back 1)) n)) (λ s n. (12, omega arith, ap (arcOf p (back 2)) n)) (λ s n. (15, omega arith, ap (arcOf p (back 3)) n))
+      (λ s n. (14, omega arith, ap (arcOf p (Back 4)) n)) (λ s n. (13, omega arith, ap (arcOf p (Back 5)) n)) (λ s n. (3, omega arith, ap (arcOf p (Back 6)) n)) (λ s n. (0, omega arith, ap (arcOf p (Back 7)) n))
+      (λ s n. (1, omega arith, ap (arcOf p (Back 0)) n)) (λ s n. (2, omega arith, ap (arcOf p (Back 1)) n)) (λ s n. (12, omega arith, ap (arcOf p (Back 2)) n)) (λ s n. (15, omega arith, ap (arcOf p (Back 3)) n))
 
   own-entry : (d : ℕ) → d < 8 → neighbour rows columns p d ≡ None → (i : ℕ) × (i < 16) × (entering rows columns p i ≡ Some (8 * p + d))
   own-entry =
       by-direction (λ d. neighbour rows columns p d ≡ None → (i : ℕ) × (i < 16) × (entering rows columns p i ≡ Some (8 * p + d)))
-      (λ n. (4, omega arith, ap (arcOf p (loop 0)) n)) (λ n. (5, omega arith, ap (arcOf p (loop 1)) n)) (λ n. (6, omega arith, ap (arcOf p (loop 2)) n)) (λ n. (7, omega arith, ap (arcOf p (loop 3)) n))
-      (λ n. (8, omega arith, ap (arcOf p (loop 4)) n)) (λ n. (9, omega arith, ap (arcOf p (loop 5)) n)) (λ n. (10, omega arith, ap (arcOf p (loop 6)) n)) (λ n. (11, omega arith, ap (arcOf p (loop 7)) n))
+      (λ n. (4, omega arith, ap (arcOf p (Own 0)) n)) (λ n. (5, omega arith, ap (arcOf p (Own 1)) n)) (λ n. (6, omega arith, ap (arcOf p (Own 2)) n)) (λ n. (7, omega arith, ap (arcOf p (Own 3)) n))
+      (λ n. (8, omega arith, ap (arcOf p (Own 4)) n)) (λ n. (9, omega arith, ap (arcOf p (Own 5)) n)) (λ n. (10, omega arith, ap (arcOf p (Own 6)) n)) (λ n. (11, omega arith, ap (arcOf p (Own 7)) n))
 
   entry-of : (s d : ℕ) → s < rows * columns → d < 8 → valueOr (neighbour rows columns s d) s ≡ p → (i : ℕ) × (i < 16) × (entering rows columns p i ≡ Some (8 * s + d))
   entry-of s d h l = at (neighbour rows columns s d) refl
@@ -175,9 +184,9 @@ module _ (rows columns p : ℕ) (some : 1 ≤ columns) (here : p < rows * column
   entry-offers : Offers (λ j. eqb (heads j) p) (entering rows columns p) 16 (8 * (rows * columns))
   unfolding heads
   entry-offers = record {
-    rising = λ i k x y l m e f. in-order (entryAt i) (entryAt k) x y (source (entryAt i .direction) (entryAt i .own) x (directed i (omega arith)) e) (source (entryAt k .direction) (entryAt k .own) y (directed k m) f) (ranked i k l m);
-    within = λ i x l e. let s = source (entryAt i .direction) (entryAt i .own) x (directed i l) e in omega (arith, s .arc, s .leaves-small, mul-add-lt (s .row) columns (s .column) rows (s .row-in) (s .column-in), mul-comm rows columns);
-    passing = λ i x l e. eq-eqb (heads x) p (enters (entryAt i .direction) (entryAt i .own) x (directed i l) e);
+    rising = λ i k x y l m e f. in-order (entryAt i) (entryAt k) x y (source (entryAt i) x (directed i (omega arith)) e) (source (entryAt k) y (directed k m) f) (ranked i k l m);
+    within = λ i x l e. let s = source (entryAt i) x (directed i l) e in omega (arith, s .arc, s .leaves-small, mul-add-lt (s .row) columns (s .column) rows (s .row-in) (s .column-in), mul-comm rows columns);
+    passing = λ i x l e. eq-eqb (heads x) p (enters (entryAt i) x (directed i l) e);
     whole = λ j l t. let w = entry-of (j / 8) (j % 8) (omega arith) (omega arith) (eqb-true (heads j) p t) in (w .0, w .1, w .2 ∙ ap Some (omega arith));
   }
 
@@ -186,16 +195,42 @@ module _ (rows columns p : ℕ) (some : 1 ≤ columns) (here : p < rows * column
   entering-are = arcsAt-offered (λ j. valueOr (neighbour rows columns (j / 8) (j % 8)) (j / 8)) (entering rows columns p) 16 (8 * (rows * columns)) p entry-offers
 
   -- of the two entries of a direction one has an arc
-  one-of : (v : Option ℕ) (d : ℕ) → ones (arcOf p (back d) v) + ones (arcOf p (loop d) v) ≡ 1
+  one-of : (v : Option ℕ) (d : ℕ) → ones (arcOf p (Back d) v) + ones (arcOf p (Own d) v) ≡ 1
   unfolding ones
   one-of (Some s) d = refl
   one-of None d = refl
 
   pub entering-count : length (offered (entering rows columns p) 0 16) ≡ 8
   entering-count =
-      let o : (d : ℕ) → ones (arcOf p (back d) (neighbour rows columns p d)) + ones (arcOf p (loop d) (neighbour rows columns p d)) ≡ 1 = λ d. one-of (neighbour rows columns p d) d in
+      let o : (d : ℕ) → ones (arcOf p (Back d) (neighbour rows columns p d)) + ones (arcOf p (Own d) (neighbour rows columns p d)) ≡ 1 = λ d. one-of (neighbour rows columns p d) d in
       length-offered (entering rows columns p) 0 16 ∙ omega (arith, o 0, o 1, o 2, o 3, o 4, o 5, o 6, o 7)
 
 -- a neighbour is on the grid
 pub near : (rows columns p d s : ℕ) → 1 ≤ columns → p < rows * columns → neighbour rows columns p d ≡ Some s → s < rows * columns
 near rows columns p d s some h n = beside-in rows columns some p d s (neighbour-is rows columns some p d s h n)
+
+-- how many arcs leave and enter a place of a grid
+module _ (g : Grid) (p : ℕ) where
+  lawful : Lawful (gridded (g .rows) (g .columns) (g .base))
+  lawful = gridded-lawful (g .rows) (g .columns) (g .base) (g .someRows) (g .fewRows) (g .someColumns) (g .fewColumns) (g .lowBase) (g .highBase)
+
+  degree : (xs : List ℕ) → (p < g .rows * g .columns → length xs ≡ 8) → (g .rows * g .columns ≤ p → xs ≡ []) → cond (ltb p (g .rows * g .columns)) 8 0 ≡ length xs
+  degree xs here beyond =
+      elim (cases-lt p (g .rows * g .columns)) [
+        | inl h ↦ cond-true {A = ℕ} (ltb p (g .rows * g .columns)) 8 0 (lt-ltb p (g .rows * g .columns) h) ∙ sym (here h)
+        | inr h ↦ cond-false {A = ℕ} (ltb p (g .rows * g .columns)) 8 0 (le-ltb p (g .rows * g .columns) h) ∙ sym (ap length (beyond h))
+      ]
+
+  pub degree-from : cond (ltb p (g .rows * g .columns)) 8 0 ≡ length (arcsFrom (gridded (g .rows) (g .columns) (g .base)) p)
+  degree-from =
+      let m = gridded (g .rows) (g .columns) (g .base) in
+      degree (arcsFrom m p) (λ h. ap length (leaving-are (g .rows * g .columns) p h) ∙ leaving-count (g .rows * g .columns) p h) (arcsAt-beyond (m .tail) (m .arcs) (m .places) p (lawful .tail-in))
+
+  pub degree-into : cond (ltb p (g .rows * g .columns)) 8 0 ≡ length (arcsInto (gridded (g .rows) (g .columns) (g .base)) p)
+  degree-into =
+      let m = gridded (g .rows) (g .columns) (g .base) in
+      degree (arcsInto m p) (λ h. ap length (entering-are (g .rows) (g .columns) p (g .someColumns) h) ∙ entering-count (g .rows) (g .columns) p (g .someColumns) h) (arcsAt-beyond (m .head) (m .arcs) (m .places) p (lawful .head-in))
+
+-- a grid has few cells
+pub few-cells : (g : Grid) → g .rows * g .columns ≤ 16384
+few-cells g = few (g .rows) (g .columns) (g .base) (g .someRows) (g .fewRows) (g .someColumns) (g .fewColumns) (g .lowBase) (g .highBase)

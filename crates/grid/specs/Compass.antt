@@ -6,7 +6,6 @@ use lib.IntN.{ℤ, pos, negsuc}
 use lib.ListN.{getD}
 use Rattle.std.specs.declared.option.Option.{Option}
 use Rattle.std.specs.declared.option.Option.the-variants.{Some, None}
-use Rattle.grid.specs.declared.compass.Step.{Step}
 use Rattle.ground.specs.Questions.{known}
 
 -- a row or a column less, the same, or one more
@@ -20,17 +19,17 @@ abbrev pub more : ℤ
 more = pos 1
 
 -- how the row changes, how the column changes, and how many times the base an arc costs at least
-abbrev pub step : ℤ → ℤ → ℕ → Step
-step r c f = record { row = r; column = c; factor = f }
+abbrev pub Step : Type 0
+Step = ℤ × ℤ × ℕ
 
 -- the directions 0 to 7
 abbrev pub compass : List Step
 compass =
-    step less same 5 ∷ step less more 7 ∷ step same more 5 ∷ step more more 7 ∷
-    step more same 5 ∷ step more less 7 ∷ step same less 5 ∷ step less less 7 ∷ []
+    (less, same, 5) ∷ (less, more, 7) ∷ (same, more, 5) ∷ (more, more, 7) ∷
+    (more, same, 5) ∷ (more, less, 7) ∷ (same, less, 5) ∷ (less, less, 7) ∷ []
 
 abbrev pub stepOf : ℕ → Step
-stepOf d = getD compass d (step same same 0)
+stepOf d = getD compass d (same, same, 0)
 
 -- the row or the column that a step leads to, if it is one of so many
 abbrev pub moved : ℕ → ℕ → ℤ → Option ℕ
@@ -45,7 +44,7 @@ placeAt columns (Some r) (Some c) = Some (r * columns + c)
 
 -- the place beside the cell at row r and column c in direction d, unless that is off the grid
 unfoldable pub beside : ℕ → ℕ → ℕ → ℕ → ℕ → Option ℕ
-beside rows columns r c d = placeAt columns (moved rows r (stepOf d .row)) (moved columns c (stepOf d .column))
+beside rows columns r c d = placeAt columns (moved rows r (stepOf d .0)) (moved columns c (stepOf d .1))
 
 -- the same of the cell at place p
 abbrev pub neighbour : ℕ → ℕ → ℕ → ℕ → Option ℕ

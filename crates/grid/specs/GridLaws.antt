@@ -63,8 +63,8 @@ pub record Beside (rows columns p d s : ℕ) : Type 0 where
   pub row-in : row < rows
   pub column-in : column < columns
   pub place : s ≡ row * columns + column
-  pub row-moved : Moved (p / columns) row (stepOf d .row)
-  pub column-moved : Moved (p % columns) column (stepOf d .column)
+  pub row-moved : Moved (p / columns) row (stepOf d .0)
+  pub column-moved : Moved (p % columns) column (stepOf d .1)
 
 module _ (rows columns : ℕ) (some : 1 ≤ columns) where
   pub row-of : (p : ℕ) → p < rows * columns → p / columns < rows
@@ -75,21 +75,21 @@ module _ (rows columns : ℕ) (some : 1 ≤ columns) where
 
   pub neighbour-is : (p d s : ℕ) → p < rows * columns → neighbour rows columns p d ≡ Some s → Beside rows columns p d s
   unfolding beside
-  neighbour-is p d s h e = at (moved rows (p / columns) (stepOf d .row)) (moved columns (p % columns) (stepOf d .column)) refl refl e
+  neighbour-is p d s h e = at (moved rows (p / columns) (stepOf d .0)) (moved columns (p % columns) (stepOf d .1)) refl refl e
     where
-      at : (r c : Option ℕ) → moved rows (p / columns) (stepOf d .row) ≡ r → moved columns (p % columns) (stepOf d .column) ≡ c → placeAt columns r c ≡ Some s → Beside rows columns p d s
+      at : (r c : Option ℕ) → moved rows (p / columns) (stepOf d .0) ≡ r → moved columns (p % columns) (stepOf d .1) ≡ c → placeAt columns r c ≡ Some s → Beside rows columns p d s
       at None c e f g = absurd (not-both None s g refl)
       at (Some r) None e f g = absurd (not-both None s g refl)
       at (Some r) (Some c) e f g =
-          let v = moved-is rows (p / columns) (stepOf d .row) r (row-of p h) e in
-          let w = moved-is columns (p % columns) (stepOf d .column) c (column-of p) f in
+          let v = moved-is rows (p / columns) (stepOf d .0) r (row-of p h) e in
+          let w = moved-is columns (p % columns) (stepOf d .1) c (column-of p) f in
           record { row = r; column = c; row-in = v .0; column-in = w .0; place = one-answer (Some s) s (r * columns + c) refl (sym g); row-moved = v .1; column-moved = w .1 }
 
   pub neighbour-to : (p d s : ℕ) → Beside rows columns p d s → neighbour rows columns p d ≡ Some s
   unfolding beside
   neighbour-to p d s b =
-      ap (λ r. placeAt columns r (moved columns (p % columns) (stepOf d .column))) (moved-to rows (p / columns) (stepOf d .row) (b .row) (b .row-in) (b .row-moved))
-      ∙ ap (placeAt columns (Some (b .row))) (moved-to columns (p % columns) (stepOf d .column) (b .column) (b .column-in) (b .column-moved))
+      ap (λ r. placeAt columns r (moved columns (p % columns) (stepOf d .1))) (moved-to rows (p / columns) (stepOf d .0) (b .row) (b .row-in) (b .row-moved))
+      ∙ ap (placeAt columns (Some (b .row))) (moved-to columns (p % columns) (stepOf d .1) (b .column) (b .column-in) (b .column-moved))
       ∙ ap Some (sym (b .place))
 
   pub beside-row : (p d s : ℕ) (b : Beside rows columns p d s) → s / columns ≡ b .row
@@ -107,7 +107,7 @@ span x y = 7 * min x y + 5 * (max x y - min x y)
 
 -- one step brings any cell nearer, or farther, by no more than the step's factor
 abbrev Stretches : ℕ → Type 0
-Stretches d = (u v r c r′ c′ : ℕ) → Moved r r′ (stepOf d .row) → Moved c c′ (stepOf d .column) → span (apart u r′) (apart v c′) ≤ span (apart u r) (apart v c) + stepOf d .factor
+Stretches d = (u v r c r′ c′ : ℕ) → Moved r r′ (stepOf d .0) → Moved c c′ (stepOf d .1) → span (apart u r′) (apart v c′) ≤ span (apart u r) (apart v c) + stepOf d .2
 
 near : (u r r′ k : ℕ) → r′ ≤ r + k → r ≤ r′ + k → apart u r′ ≤ apart u r + k
 near u r r′ k a b = omega arith
@@ -137,9 +137,9 @@ stretches =
     (goes 1 0 5 along-rows more same (omega arith) (omega arith)) (goes 1 1 7 slanting more less (omega arith) (omega arith)) (goes 0 1 5 along-columns same less (omega arith) (omega arith)) (goes 1 1 7 slanting less less (omega arith) (omega arith))
 
 -- five or seven times the base
-factors : (d : ℕ) → d < 8 → (5 ≤ stepOf d .factor) × (stepOf d .factor ≤ 7)
+factors : (d : ℕ) → d < 8 → (5 ≤ stepOf d .2) × (stepOf d .2 ≤ 7)
 factors =
-    by-direction (λ d. (5 ≤ stepOf d .factor) × (stepOf d .factor ≤ 7)) (omega arith) (omega arith) (omega arith) (omega arith) (omega arith) (omega arith) (omega arith) (omega arith)
+    by-direction (λ d. (5 ≤ stepOf d .2) × (stepOf d .2 ≤ 7)) (omega arith) (omega arith) (omega arith) (omega arith) (omega arith) (omega arith) (omega arith) (omega arith)
 
 module _ (rows columns base : ℕ) (some : 1 ≤ columns) where
   -- an arc that goes somewhere or back to its own cell
@@ -150,23 +150,23 @@ module _ (rows columns base : ℕ) (some : 1 ≤ columns) where
       at None e = own
       at (Some s) e = other s (neighbour-is rows columns some p d s h e)
 
-  grid-step : (a j : ℕ) → j < 8 * (rows * columns) → gridded rows columns base .estimate a (gridded rows columns base .head j) ≤ gridded rows columns base .estimate a (j / 8) + stepOf (j % 8) .factor * base
+  grid-step : (a j : ℕ) → j < 8 * (rows * columns) → gridded rows columns base .estimate a (gridded rows columns base .head j) ≤ gridded rows columns base .estimate a (j / 8) + stepOf (j % 8) .2 * base
   grid-step a j h =
-      head-of (λ s. est s ≤ est (j / 8) + stepOf (j % 8) .factor * base) (j / 8) (j % 8) (omega arith) (omega arith) away
+      head-of (λ s. est s ≤ est (j / 8) + stepOf (j % 8) .2 * base) (j / 8) (j % 8) (omega arith) (omega arith) away
     where
       est : ℕ → ℕ
       est s = gridded rows columns base .estimate a s
 
-      away : (s : ℕ) → Beside rows columns (j / 8) (j % 8) s → est s ≤ est (j / 8) + stepOf (j % 8) .factor * base
+      away : (s : ℕ) → Beside rows columns (j / 8) (j % 8) s → est s ≤ est (j / 8) + stepOf (j % 8) .2 * base
       away s b =
           let u = a / columns in
           let v = a % columns in
           let r = j / 8 / columns in
           let c = j / 8 % columns in
-          let x : span (apart u (b .row)) (apart v (b .column)) ≤ span (apart u r) (apart v c) + stepOf (j % 8) .factor = stretches (j % 8) (omega arith) u v r c (b .row) (b .column) (b .row-moved) (b .column-moved) in
+          let x : span (apart u (b .row)) (apart v (b .column)) ≤ span (apart u r) (apart v c) + stepOf (j % 8) .2 = stretches (j % 8) (omega arith) u v r c (b .row) (b .column) (b .row-moved) (b .column-moved) in
           let e : est s ≡ base * span (apart u (b .row)) (apart v (b .column)) = ap₂ (λ y z. estimated base (apart u y) (apart v z)) (beside-row rows columns some (j / 8) (j % 8) s b) (beside-column rows columns some (j / 8) (j % 8) s b) ∙ estimated-by base (apart u (b .row)) (apart v (b .column)) in
           let f : est (j / 8) ≡ base * span (apart u r) (apart v c) = estimated-by base (apart u r) (apart v c) in
-          omega (arith, mul-le-mul-left base x, mul-add base (span (apart u r) (apart v c)) (stepOf (j % 8) .factor), mul-comm (stepOf (j % 8) .factor) base)
+          omega (arith, mul-le-mul-left base x, mul-add base (span (apart u r) (apart v c)) (stepOf (j % 8) .2), mul-comm (stepOf (j % 8) .2) base)
 
 close : (x y limit : ℕ) → x < limit → y < limit → limit ≤ 128 → apart x y ≤ 127
 close x y limit a b l = omega arith
@@ -191,11 +191,11 @@ module _ (rows columns base : ℕ) (some-rows : 1 ≤ rows) (few-rows : rows ≤
       let z : base * span (apart (a / columns) (s / columns)) (apart (a % columns) (s % columns)) ≤ 1000 * 889 = mul-le-mul high-base (small-span (apart (a / columns) (s / columns)) (apart (a % columns) (s % columns)) x y) in
       omega (arith, estimated-by base (apart (a / columns) (s / columns)) (apart (a % columns) (s % columns)))
 
-  least-is : (d : ℕ) → d < 8 → (1 ≤ stepOf d .factor * base) × (stepOf d .factor * base ≤ 10000)
+  least-is : (d : ℕ) → d < 8 → (1 ≤ stepOf d .2 * base) × (stepOf d .2 * base ≤ 10000)
   least-is d h =
       let f = factors d h in
-      let low : 5 * 1 ≤ stepOf d .factor * base = mul-le-mul (f .0) low-base in
-      let high : stepOf d .factor * base ≤ 7 * 1000 = mul-le-mul (f .1) high-base in
+      let low : 5 * 1 ≤ stepOf d .2 * base = mul-le-mul (f .0) low-base in
+      let high : stepOf d .2 * base ≤ 7 * 1000 = mul-le-mul (f .1) high-base in
       (omega arith, omega arith)
 
   pub gridded-lawful : Lawful (gridded rows columns base)

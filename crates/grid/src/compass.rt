@@ -3,55 +3,18 @@ ghost use mathlib.Core.Path.{_≡_};
 ghost use Prim.Native.Nat.{_<_};
 ghost use Rattle.grid.specs.Compass.{stepOf};
 
-// How the row and the column change, and how many times the base an arc costs at least.
-#[derive(Clone, Copy)]
-pub struct Step {
-    pub row: i32,
-    pub column: i32,
-    pub factor: u32,
-}
+// How the row changes, how the column changes, and how many times the base an arc costs at least.
+pub type Step = (i32, i32, u32);
 
 const STEPS: [Step; 8] = [
-    Step {
-        row: -1,
-        column: 0,
-        factor: 5,
-    },
-    Step {
-        row: -1,
-        column: 1,
-        factor: 7,
-    },
-    Step {
-        row: 0,
-        column: 1,
-        factor: 5,
-    },
-    Step {
-        row: 1,
-        column: 1,
-        factor: 7,
-    },
-    Step {
-        row: 1,
-        column: 0,
-        factor: 5,
-    },
-    Step {
-        row: 1,
-        column: -1,
-        factor: 7,
-    },
-    Step {
-        row: 0,
-        column: -1,
-        factor: 5,
-    },
-    Step {
-        row: -1,
-        column: -1,
-        factor: 7,
-    },
+    (-1, 0, 5),
+    (-1, 1, 7),
+    (0, 1, 5),
+    (1, 1, 7),
+    (1, 0, 5),
+    (1, -1, 7),
+    (0, -1, 5),
+    (-1, -1, 7),
 ];
 
 // The step of a direction.

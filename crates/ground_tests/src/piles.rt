@@ -2,7 +2,6 @@
 use crate::asked::*;
 use grid::grid::Grid;
 use grid::grid::ground::GridGround;
-use ground::ground::Ground;
 use pickup::pickup::Pickup;
 use pickup::pickup::layer::PickupGround;
 use std::test::*;
@@ -13,17 +12,18 @@ fn pile_of_two() -> Result<(), Fail> {
     let g = Grid::new(2, 2, 1)?;
     let one = Pickup::new(&g, 1);
     let two = Pickup::new(&one, 6);
-    check_eq(one.places(), 8)?;
-    check_eq(one.arcs(), 65)?;
-    check_eq(two.places(), 16)?;
-    check_eq(two.arcs(), 131)?;
-    arc_is(&two, 64, 1, 5, 1)?;
-    arc_is(&two, 115, 14, 15, 5)?;
-    arc_is(&two, 129, 9, 13, 1)?;
-    arc_is(&two, 130, 6, 14, 1)?;
-    check_eq(two.tail(131), None)?;
-    check_eq(two.estimate(0, 11), Some(7))?;
-    check_eq(two.estimate(0, 16), None)?;
+    sizes_are(&one, 8, 65)?;
+    sizes_are(&two, 16, 131)?;
+    arcs_are(
+        &two,
+        &[
+            (64, 1, 5, 1),
+            (115, 14, 15, 5),
+            (129, 9, 13, 1),
+            (130, 6, 14, 1),
+        ],
+    )?;
+    estimates_are(&two, &[(0, 11, 7), (9, 14, 7)])?;
     leaving_are(&two, 6, &[48, 49, 50, 51, 52, 53, 54, 55, 130])?;
     leaving_are(&two, 1, &[8, 9, 10, 11, 12, 13, 14, 15, 64])?;
     entering_are(&two, 5, &[34, 40, 41, 42, 43, 47, 49, 56, 64])?;
@@ -35,8 +35,7 @@ fn pile_of_two() -> Result<(), Fail> {
 fn off_the_ground() -> Result<(), Fail> {
     let g = Grid::new(2, 2, 1)?;
     let layer = Pickup::new(&g, 4);
-    check_eq(layer.places(), 8)?;
-    check_eq(layer.arcs(), 64)?;
+    sizes_are(&layer, 8, 64)?;
     leaving_are(&layer, 3, &[24, 25, 26, 27, 28, 29, 30, 31])?;
     entering_are(&layer, 7, &[35, 44, 50, 57, 58, 59, 60, 61])
 }
@@ -45,8 +44,6 @@ fn off_the_ground() -> Result<(), Fail> {
 fn no_room() -> Result<(), Fail> {
     let g = Grid::new(128, 128, 1)?;
     let layer = Pickup::new(&g, 0);
-    check_eq(layer.places(), 0)?;
-    check_eq(layer.arcs(), 0)?;
-    check_eq(layer.head(0), None)?;
+    sizes_are(&layer, 0, 0)?;
     leaving_are(&layer, 0, &[])
 }

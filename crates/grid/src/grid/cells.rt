@@ -1,6 +1,8 @@
 // Where the steps of the compass lead from a cell.
 ghost use mathlib.Core.Path.{_≡_};
-ghost use Prim.Native.Nat.{_<_, _*_, _/_, _%_};
+ghost use Prim.Native.Nat.{_<_, _+_, _*_, _/_, _%_};
+ghost use lib.Dec.{ltb};
+ghost use mathlib.Core.Bool.{cond};
 ghost use Rattle.grid.specs.Compass.{moved as shifted, beside as neighbourOf};
 ghost use Rattle.grid.specs.Entries.{entering};
 use crate::compass::step_in;
@@ -26,7 +28,34 @@ fn moved(limit: u32, at: u32, by: i32) -> Option<u32>
     }
 }
 
+// The arc that leaves a place in a direction.
+pub fn arc_from(place: u32, direction: u32) -> u32
+    requires { ⌜ place < 16384 ⌝ ∗ ⌜ direction < 8 ⌝ }
+    ensures { λ r. ⌜ r ≡ 8 * place + direction ⌝ }
+{
+    8 * place + direction
+}
+
 impl Grid {
+    // How many arcs there are at either end of a cell: one for each direction.
+    pub(super) fn degree(&self, place: u32) -> u32
+        ensures { λ r. ⌜ r ≡ cond (ltb place (now (self .entry) .rows * now (self .entry) .columns)) 8 0 ⌝ }
+    {
+        if place < self.rows * self.columns {
+            8
+        } else {
+            0
+        }
+    }
+
+    // The place at a row and a column.
+    fn place_at(&self, row: u32, column: u32) -> u32
+        requires { ⌜ row < now self .rows ⌝ ∗ ⌜ column < now self .columns ⌝ }
+        ensures { λ r. ⌜ r ≡ row * now (self .entry) .columns + column ⌝ }
+    {
+        row * self.columns + column
+    }
+
     // The cell at a place.
     pub(super) fn cell(&self, place: u32) -> Cell
         requires { ⌜ place < now self .rows * now self .columns ⌝ }
@@ -44,10 +73,10 @@ impl Grid {
         requires { ⌜ cell .row < now self .rows ⌝ ∗ ⌜ cell .column < now self .columns ⌝ ∗ ⌜ direction < 8 ⌝ }
         ensures { λ r. ⌜ r ≡ neighbourOf (now (self .entry) .rows) (now (self .entry) .columns) (cell .row) (cell .column) direction ⌝ }
     {
-        let step = step_in(direction);
-        let to_row = moved(self.rows, cell.row, step.row)?;
-        let to_column = moved(self.columns, cell.column, step.column)?;
-        Some(to_row * self.columns + to_column)
+        let (by_row, by_column, _) = step_in(direction);
+        let to_row = moved(self.rows, cell.row, by_row)?;
+        let to_column = moved(self.columns, cell.column, by_column)?;
+        Some(self.place_at(to_row, to_column))
     }
 
     // The arc by which the cell at a place is entered, if there is one at that entry of the table.
@@ -57,11 +86,15 @@ impl Grid {
         requires { ⌜ cell .column ≡ place % now self .columns ⌝ ∗ ⌜ cell .column < now self .columns ⌝ }
         ensures { λ r. ⌜ r ≡ entering (now (self .entry) .rows) (now (self .entry) .columns) place i ⌝ }
     {
-        let Entry { direction, own } = entry_at(i);
-        match (self.beside(cell, direction), own) {
-            (Some(from), false) => Some(8 * from + (direction as u32 + 4) % 8),
-            (None, true) => Some(8 * place + direction as u32),
-            _ => None,
+        match entry_at(i) {
+            Entry::Back(direction) => match self.beside(cell, direction) {
+                Some(from) => Some(arc_from(from, (direction as u32 + 4) % 8)),
+                None => None,
+            },
+            Entry::Own(direction) => match self.beside(cell, direction) {
+                Some(_) => None,
+                None => Some(arc_from(place, direction as u32)),
+            },
         }
     }
 }

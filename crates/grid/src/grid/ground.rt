@@ -3,6 +3,7 @@ ghost use Rattle.grid.specs.Grids.{gridded};
 ghost use Rattle.grid.specs.GridLaws.{gridded-lawful};
 use crate::compass::step_in;
 use crate::grid::Grid;
+use crate::grid::cells::arc_from;
 use ground::ground::Ground;
 
 pub impl Ground for Grid as GridGround {
@@ -33,11 +34,11 @@ pub impl Ground for Grid as GridGround {
     }
 
     fn least(&self, arc: u32) -> Option<u32> {
-        if arc < self.arcs() {
-            Some(step_in(arc as usize % 8).factor * self.base)
-        } else {
-            None
+        if arc >= self.arcs() {
+            return None;
         }
+        let (_, _, factor) = step_in(arc as usize % 8);
+        Some(factor * self.base)
     }
 
     fn estimate(&self, from: u32, to: u32) -> Option<u32> {
@@ -52,16 +53,17 @@ pub impl Ground for Grid as GridGround {
     }
 
     fn leaving_count(&self, place: u32) -> u32 {
-        if place < self.places() { 8 } else { 0 }
+        self.degree(place)
     }
 
+    // In each direction there is an arc back from the neighbour, or the cell's own where there is none.
     fn entering_count(&self, place: u32) -> u32 {
-        if place < self.places() { 8 } else { 0 }
+        self.degree(place)
     }
 
     fn leaving(&self, place: u32, k: u32) -> Option<u32> {
         if place < self.places() && k < 8 {
-            Some(8 * place + k)
+            Some(arc_from(place, k))
         } else {
             None
         }
