@@ -120,9 +120,9 @@ module _ (m : Meaning) (s : State) where
       to : End m s → SearchOver m s
       to (nothing-open none) = inl (λ q w. none q (opens q w))
       to (here-first level first) = elim (cases-eq (s .g (s .here)) far) [
-          inl e ↦ inl (λ q w. first q (opens q w) .0 e)
+        | inl e ↦ inl (λ q w. first q (opens q w) .0 e)
         | inr d ↦ inr (level, d, λ q w. first q (opens q w) .1)
-        ]
+      ]
 
       back : SearchOver m s → ended m s ≡ true
       back (inl none) = none-ended m s (λ q o. none q (waits q o))

@@ -154,7 +154,7 @@ module _ (m : Meaning) (law : Lawful m) (s : State) (sound : Sound m s) (p : ℕ
         pass = over-turn m law s (sound .standing) (sound .pass) p first _ _ others rest high here shut;
         few = omega (arith, sound .few, total-falls (weight s) (weight after) (m .places) p (first .is-open .place-in) same-weight (omega (arith, gone, weight-there, some)));
       }
-      go (was-under low here free) = let one : weight after p ≡ 1 = cond-false {A = ℕ} _ _ _ free ∙ cond-true {A = ℕ} _ _ _ (eq-eqb _ _ here) in let two : cond (eqb (s .g p) far) 1 2 ≡ 2 = cond-false {A = ℕ} _ _ _ (ne-eqb (s .g p) far (λ e. omega (arith, rhs-far m s p))) in record {
+      go (was-under low here free) = let one : weight after p ≡ 1 = cond-false {A = ℕ} _ _ _ free ∙ cond-true {A = ℕ} _ _ _ (eq-eqb _ _ here) in let two : _≡_ {A = ℕ} (cond (eqb (s .g p) far) 1 2) 2 = cond-false {A = ℕ} _ _ _ (ne-eqb (s .g p) far (λ e. omega (arith, rhs-far m s p))) in record {
         standing = standing-after far here (omega arith);
         pass = under-turn m law s (sound .standing) (sound .pass) p first _ _ others rest low here free;
         few = omega (arith, sound .few, total-falls (weight s) (weight after) (m .places) p (first .is-open .place-in) same-weight (omega (arith, one, weight-there, two)));
