@@ -1,0 +1,14 @@
+pub mod Members
+pub mod Offers
+pub mod Orders
+pub mod Seen
+pub mod Opens
+pub mod Moves
+pub mod Passing
+pub mod Weights
+pub mod Running
+pub mod Arriving
+pub mod Ending
+pub mod Reaching
+pub mod Promised
+pub mod Chosen

