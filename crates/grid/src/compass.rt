@@ -18,7 +18,7 @@ const STEPS: [Step; 8] = [
 ];
 
 // The step of a direction.
-pub fn step_in(direction: usize) -> Step
+pub(crate) fn step_in(direction: usize) -> Step
     requires { ⌜ direction < 8 ⌝ }
     ensures { λ r. ⌜ r ≡ stepOf direction ⌝ }
 {

@@ -32,7 +32,7 @@ const ENTRIES: [Entry; 16] = [
 ];
 
 // The entry at a place of the table.
-pub fn entry_at(i: usize) -> Entry
+pub(crate) fn entry_at(i: usize) -> Entry
     requires { ⌜ i < 16 ⌝ }
     ensures { λ r. ⌜ r ≡ entryAt i ⌝ }
 {

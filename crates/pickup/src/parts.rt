@@ -19,7 +19,7 @@ pub struct Side {
 
 impl Side {
     // The copy of an arc on this side.
-    pub fn copy_of(self, arc: u32) -> u32
+    pub(crate) fn copy_of(self, arc: u32) -> u32
         requires { ⌜ self .first ≤ 131072 ⌝ ∗ ⌜ arc ≤ 131072 ⌝ }
         ensures { λ r. ⌜ r ≡ self .first + arc ⌝ }
     {
