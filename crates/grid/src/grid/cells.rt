@@ -29,7 +29,7 @@ fn moved(limit: u32, at: u32, by: i32) -> Option<u32>
 }
 
 // The arc that leaves a place in a direction.
-pub fn arc_from(place: u32, direction: u32) -> u32
+pub(crate) fn arc_from(place: u32, direction: u32) -> u32
     requires { ⌜ place < 16384 ⌝ ∗ ⌜ direction < 8 ⌝ }
     ensures { λ r. ⌜ r ≡ 8 * place + direction ⌝ }
 {
