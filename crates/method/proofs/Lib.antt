@@ -12,3 +12,4 @@ pub mod Ending
 pub mod Reaching
 pub mod Promised
 pub mod Chosen
+pub mod Accepting

@@ -6,3 +6,4 @@ pub mod Calls
 pub mod Pasts
 pub mod Promise
 pub mod Laws
+pub mod Handed

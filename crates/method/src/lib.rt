@@ -1,4 +1,5 @@
 // The method: what a plan's calls do, as definitions over a ground's meaning, and the route promise proved over them.
+ghost use Rattle.method.specs.Handed.{BeginLaw};
 ghost use Rattle.method.specs.Laws.{ChoiceLaws};
 ghost use Rattle.method.specs.Promise.{RoutePromiseHolds};
 
@@ -14,4 +15,11 @@ pub fn choice_laws() -> u8
     ensures { λ _. ⌜ ChoiceLaws ⌝ }
 {
     2
+}
+
+// The law of Begin stands: it is accepted exactly when its numbers are in range and no table is short. The figure is the number of its refusals.
+pub fn begin_law() -> u8
+    ensures { λ _. ⌜ BeginLaw ⌝ }
+{
+    3
 }
