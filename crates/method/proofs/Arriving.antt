@@ -18,58 +18,21 @@ use Rattle.ground.specs.Questions.{arcsFrom}
 use Rattle.ground.specs.Chains.{Chain, passes, sumOf}
 use Rattle.method.specs.States.{State}
 use Rattle.method.specs.Values.{offer, rhs}
-use Rattle.method.specs.Calls.{cheaper, cheapest, onward, follow}
+use Rattle.method.specs.Calls.{cheapest, onward, follow}
 use Rattle.method.specs.Promise.{Once}
-use Rattle.method.proofs.Members.{Member}
+use Rattle.method.proofs.Bests.{best-none, Ranks, best-least}
 use Rattle.method.proofs.Offers.{leaves, left-by, rhs-offer, Offered, rhs-from}
 use Rattle.method.proofs.Seen.{Standing}
 use Rattle.method.proofs.Weights.{total}
 
-cheapest-none : (f : ℕ → ℕ) (xs : List ℕ) → cheapest f xs ≡ None → (i : ℕ) → Member i xs → ⊥
-cheapest-none f [] e i h = h
-cheapest-none f (x ∷ xs) e i h = go (cheapest f xs) e
-  where
-    some : (b : Bool) (y : ℕ) → cond b (Some y) (Some x) ≡ None → ⊥
-    some true y n = let z : _≡_ {A = ℕ} 0 1 = cc in omega arith
-    some false y n = let z : _≡_ {A = ℕ} 0 1 = cc in omega arith
-
-    go : (r : Option ℕ) → cheaper f x r ≡ None → ⊥
-    go None n = let z : _≡_ {A = ℕ} 0 1 = cc in omega arith
-    go (Some y) n = some (ltb (f y) (f x)) y n
-
-pub record Cheapest (f : ℕ → ℕ) (xs : List ℕ) (j : ℕ) : Type 0 where
-  pub among : Member j xs
-  pub least : (i : ℕ) → Member i xs → f j ≤ f i
-
-pub cheapest-least : (f : ℕ → ℕ) (xs : List ℕ) (j : ℕ) → cheapest f xs ≡ Some j → Cheapest f xs j
-cheapest-least f [] j e = absurd (let z : _≡_ {A = ℕ} 0 1 = cc in omega arith)
-cheapest-least f (x ∷ xs) j e = go (cheapest f xs) refl e (cheapest-least f xs)
-  where
-    choose : (y : ℕ) → Cheapest f xs y → (b : Bool) → ltb (f y) (f x) ≡ b → cond b (Some y) (Some x) ≡ Some j → Cheapest f (x ∷ xs) j
-    choose y so true b e =
-        let same : j ≡ y = cc in
-        rw same (record { among = inr (so .among); least = λ i h. later i h })
-      where
-        later : (i : ℕ) → Member i (x ∷ xs) → f y ≤ f i
-        later i (inl e) = omega (arith, ap f e, ltb-true (f y) (f x) b)
-        later i (inr h) = so .least i h
-    choose y so false b e =
-        let same : j ≡ x = cc in
-        rw same (record { among = inl refl; least = λ i h. later i h })
-      where
-        later : (i : ℕ) → Member i (x ∷ xs) → f x ≤ f i
-        later i (inl e) = omega (arith, ap f e)
-        later i (inr h) = omega (arith, ltb-false (f y) (f x) b, so .least i h)
-
-    go : (r : Option ℕ) → cheapest f xs ≡ r → cheaper f x r ≡ Some j → ((y : ℕ) → cheapest f xs ≡ Some y → Cheapest f xs y) → Cheapest f (x ∷ xs) j
-    go None n e so =
-        let same : j ≡ x = cc in
-        rw same (record { among = inl refl; least = λ i h. later i h })
-      where
-        later : (i : ℕ) → Member i (x ∷ xs) → f x ≤ f i
-        later i (inl e) = omega (arith, ap f e)
-        later i (inr h) = absurd (cheapest-none f xs n i h)
-    go (Some y) n e so = choose y (so y n) (ltb (f y) (f x)) refl e
+-- offers rank arcs
+offer-ranks : (f : ℕ → ℕ) → Ranks (λ i j. ltb (f i) (f j)) (λ i j. f i ≤ f j)
+offer-ranks f = record {
+  same = λ i. omega arith;
+  wins = λ i j h. omega (arith, ltb-true (f i) (f j) h);
+  holds = λ i j h. ltb-false (f i) (f j) h;
+  carries = λ i j k h l. omega arith;
+}
 
 -- the arc that a route takes from a place: it costs what the rhs says, less the value of its head
 pub record Step (m : Meaning) (s : State) (p j : ℕ) : Type 0 where
@@ -81,9 +44,9 @@ pub step-taken : (m : Meaning) (s : State) (p : ℕ) → (p ≡ s .landing → �
 step-taken m s p away low = go (cheapest (offer m s) (arcsFrom m p)) refl (rhs-from m s p away low)
   where
     go : (r : Option ℕ) → cheapest (offer m s) (arcsFrom m p) ≡ r → Offered m s p → (j : ℕ) × (cheapest (offer m s) (arcsFrom m p) ≡ Some j) × Step m s p j
-    go None n o = absurd (cheapest-none (offer m s) (arcsFrom m p) n (o .arc) (leaves m p (o .arc) (o .arc-in) (o .from)))
+    go None n o = absurd (best-none (λ i j. ltb (offer m s i) (offer m s j)) (arcsFrom m p) n (o .arc) (leaves m p (o .arc) (o .arc-in) (o .from)))
     go (Some j) n o =
-        let so = cheapest-least (offer m s) (arcsFrom m p) j n in
+        let so = best-least (λ i j. ltb (offer m s i) (offer m s j)) (λ i j. offer m s i ≤ offer m s j) (offer-ranks (offer m s)) (arcsFrom m p) j n in
         let at = left-by m p j (so .among) in
         let below = so .least (o .arc) (leaves m p (o .arc) (o .arc-in) (o .from)) in
         let least = rhs-offer m s j (at .0) in

@@ -10,30 +10,19 @@ use Rattle.std.specs.Iters.{counting}
 use Rattle.std.specs.shelf.Lists.{All, kept-by}
 use Rattle.std.specs.declared.option.Option.{Option}
 use Rattle.std.specs.declared.option.Option.the-variants.{Some, None}
-use Rattle.std.proofs.shelf.Tests.{cases-bool, cases-eq, cases-order, and-from, and-parts, or-cases, or-right, or-from, not-from-false, eq-eqb, ne-eqb, eqb-true, ltb-true, true≢false}
+use Rattle.std.proofs.shelf.Tests.{cases-bool, cases-eq, cases-order, and-from, or-right, or-from, not-from-false, eq-eqb, ne-eqb, true≢false}
 use Rattle.terms.specs.Amounts.{far}
 use Rattle.ground.specs.Meanings.{Meaning}
 use Rattle.method.specs.States.{State}
 use Rattle.method.specs.Values.{rhs, level, isOpen, openPlaces}
 use Rattle.method.specs.Keys.{Key, before, key}
-use Rattle.method.specs.Turns.{sooner, soonest, allOf, isNone, hereAfter, ended}
+use Rattle.method.specs.Turns.{soonest, allOf, isNone, hereAfter, ended}
 use Rattle.method.specs.Laws.{Waits, HasTurn, TurnLaw, SearchOver, EndLaw, ChoiceLaws}
-use Rattle.method.proofs.Members.{Member, member-kept}
-use Rattle.method.proofs.Orders.{Upto, not-before, first-before, second-before}
-use Rattle.method.proofs.Opens.{Open, open-listed, listed-open, soonest-none, soonest-least, Soonest}
+use Rattle.method.proofs.Members.{Member}
+use Rattle.method.proofs.Bests.{rising-kept, best-lowest}
+use Rattle.method.proofs.Orders.{Upto, strict}
+use Rattle.method.proofs.Opens.{Open, open-listed, listed-open, soonest-none, soonest-least}
 use Rattle.method.proofs.Running.{End, nothing-open, here-first, ended-end, none-ended}
-
--- what it says that a key comes before another
-strict : (k l : Key) → before k l ≡ true → (k .first ≤ l .first) × (k .first ≡ l .first → k .second < l .second)
-strict k l h = go (or-cases _ _ h)
-  where
-    go : (ltb (k .first) (l .first) ≡ true) ⊎ ((eqb (k .first) (l .first) && ltb (k .second) (l .second)) ≡ true) → (k .first ≤ l .first) × (k .first ≡ l .first → k .second < l .second)
-    go (inl t) = let lt = ltb-true (k .first) (l .first) t in (omega arith, λ e. omega arith)
-    go (inr t) =
-        let both = and-parts (eqb (k .first) (l .first)) (ltb (k .second) (l .second)) t in
-        let same = eqb-true (k .first) (l .first) (both .0) in
-        let lt = ltb-true (k .second) (l .second) (both .1) in
-        (omega arith, λ e. lt)
 
 -- a key that does not come after another is not preceded by it
 upto-before : (k l : Key) → Upto k l → before l k ≡ false
@@ -42,36 +31,6 @@ upto-before k l u = go (cases-bool (before l k))
     go : (before l k ≡ true) ⊎ (before l k ≡ false) → before l k ≡ false
     go (inl t) = absurd (let s = strict l k t in let same : k .first ≡ l .first = omega (arith, u .firsts) in omega (arith, u .seconds same, s .1 (sym same)))
     go (inr f) = f
-
-abbrev Rising : List ℕ → Type 0
-Rising [] = Unit {0}
-Rising (x ∷ xs) = ((y : ℕ) → Member y xs → x < y) × Rising xs
-
-rising-kept : (test : ℕ → Bool) (a n : ℕ) → Rising (kept-by test (counting a n))
-rising-kept test a zero = tt
-rising-kept test a (suc n) = go (test a) (rising-kept test (a + 1) n)
-  where
-    go : (t : Bool) → Rising (kept-by test (counting (a + 1) n)) → Rising (cond t (a ∷ kept-by test (counting (a + 1) n)) (kept-by test (counting (a + 1) n)))
-    go true more = (λ y h. omega (arith, member-kept test (a + 1) n y h .from), more)
-    go false more = more
-
--- among equal keys the lowest number is taken
-soonest-lowest : (key : ℕ → Key) (xs : List ℕ) → Rising xs → (p : ℕ) → soonest key xs ≡ Some p → (q : ℕ) → Member q xs → q < p → before (key p) (key q) ≡ true
-soonest-lowest key [] up p e q h low = absurd h
-soonest-lowest key (x ∷ xs) up p e q h low = go (soonest key xs) refl e (soonest-lowest key xs (up .1))
-  where
-    first : p ≡ x → Member q (x ∷ xs) → ⊥
-    first same (inl is) = omega arith
-    first same (inr later) = omega (arith, up .0 q later)
-
-    choose : (y : ℕ) → ((p : ℕ) → soonest key xs ≡ Some p → (q : ℕ) → Member q xs → q < p → before (key p) (key q) ≡ true) → soonest key xs ≡ Some y → (b : Bool) → before (key y) (key x) ≡ b → cond b (Some y) (Some x) ≡ Some p → Member q (x ∷ xs) → before (key p) (key q) ≡ true
-    choose y more is true b e (inl at) = let same : p ≡ y = cc in rw (same, at) b
-    choose y more is true b e (inr later) = let same : p ≡ y = cc in more p (is ∙ ap Some (sym same)) q later low
-    choose y more is false b e at = let same : p ≡ x = cc in absurd (first same at)
-
-    go : (r : Option ℕ) → soonest key xs ≡ r → sooner key x r ≡ Some p → ((p : ℕ) → soonest key xs ≡ Some p → (q : ℕ) → Member q xs → q < p → before (key p) (key q) ≡ true) → before (key p) (key q) ≡ true
-    go None n e more = let same : p ≡ x = cc in absurd (first same h)
-    go (Some y) n e more = choose y more n (before (key y) (key x)) refl e h
 
 member-all : (test : ℕ → Bool) (xs : List ℕ) → ((q : ℕ) → Member q xs → test q ≡ true) → allOf test xs ≡ true
 member-all test [] h = refl
@@ -90,7 +49,7 @@ module _ (m : Meaning) (s : State) where
       record {
         waits = waits p (listed-open m s p (so .among));
         least = λ q w. upto-before (key m s p) (key m s q) (so .least q (open-listed m s q (opens q w)));
-        lowest = λ q w low. soonest-lowest (key m s) (openPlaces m s) (rising-kept (isOpen m s) 0 (m .places)) p e q (open-listed m s q (opens q w)) low;
+        lowest = λ q w low. best-lowest (λ q p. before (key m s q) (key m s p)) (openPlaces m s) (rising-kept (isOpen m s) 0 (m .places)) p e q (open-listed m s q (opens q w)) low;
       }
 
   one : (p q : ℕ) → HasTurn m s p → HasTurn m s q → p ≡ q

@@ -1,4 +1,5 @@
 pub mod Members
+pub mod Bests
 pub mod Offers
 pub mod Orders
 pub mod Seen

@@ -20,6 +20,18 @@ pub record Upto (k l : Key) : Type 0 where
 pub upto-trans : {k l r : Key} → Upto k l → Upto l r → Upto k r
 upto-trans a b = record { firsts = omega (arith, a .firsts, b .firsts); seconds = λ e. omega (arith, a .seconds (omega (arith, a .firsts, b .firsts)), b .seconds (omega (arith, a .firsts, b .firsts))) }
 
+-- what it says that a key comes before another
+pub strict : (k l : Key) → before k l ≡ true → (k .first ≤ l .first) × (k .first ≡ l .first → k .second < l .second)
+strict k l h = go (or-cases _ _ h)
+  where
+    go : (ltb (k .first) (l .first) ≡ true) ⊎ ((eqb (k .first) (l .first) && ltb (k .second) (l .second)) ≡ true) → (k .first ≤ l .first) × (k .first ≡ l .first → k .second < l .second)
+    go (inl t) = let lt = ltb-true (k .first) (l .first) t in (omega arith, λ e. omega arith)
+    go (inr t) =
+        let both = and-parts (eqb (k .first) (l .first)) (ltb (k .second) (l .second)) t in
+        let same = eqb-true (k .first) (l .first) (both .0) in
+        let lt = ltb-true (k .second) (l .second) (both .1) in
+        (omega arith, λ e. lt)
+
 -- l does not come before k
 pub not-before : (k l : Key) → before l k ≡ false → Upto k l
 not-before k l h =

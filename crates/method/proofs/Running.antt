@@ -18,7 +18,7 @@ use Rattle.method.specs.Turns.{soonest, allOf, isNone, hereAfter, ended, turnA
 use Rattle.method.proofs.Members.{Member}
 use Rattle.method.proofs.Offers.{rhs-far}
 use Rattle.method.proofs.Seen.{Standing}
-use Rattle.method.proofs.Opens.{Open, open-listed, listed-open, Soonest, soonest-none, soonest-least}
+use Rattle.method.proofs.Opens.{Open, open-listed, listed-open, soonest-none, soonest-least}
 use Rattle.method.proofs.Moves.{turned}
 use Rattle.method.proofs.Passing.{Pass, First, over-turn, under-turn}
 use Rattle.method.proofs.Weights.{total, total-most, total-none, total-falls}

@@ -12,6 +12,7 @@ use Rattle.terms.specs.declared.refusal.Refusal.the-variants.{NoSuchPlace, Stre
 use Rattle.ground.specs.Meanings.{Meaning}
 use Rattle.ground.specs.Questions.{arcsFrom}
 use Rattle.method.specs.States.{State, Phase, changed, under-way, settled, isChanged, isSettled, put}
+use Rattle.method.specs.Choices.{best}
 use Rattle.method.specs.Values.{offer}
 use Rattle.method.specs.Turns.{ended, run, allOf}
 
@@ -53,15 +54,9 @@ abbrev pub cappedSum : (ℕ → ℕ) → List ℕ → ℕ
 cappedSum cost [] = 0
 cappedSum cost (j ∷ js) = cost j ⊕ cappedSum cost js
 
--- of two arcs the one with the smaller offer, the first of them where the offers are equal
-abbrev pub cheaper : (ℕ → ℕ) → ℕ → Option ℕ → Option ℕ
-cheaper offered j None = Some j
-cheaper offered j (Some i) = cond (ltb (offered i) (offered j)) (Some i) (Some j)
-
 -- of arcs in rising number the one with the smallest offer, the lowest number among equal offers
 abbrev pub cheapest : (ℕ → ℕ) → List ℕ → Option ℕ
-cheapest offered [] = None
-cheapest offered (j ∷ js) = cheaper offered j (cheapest offered js)
+cheapest offered js = best (λ i j. ltb (offered i) (offered j)) js
 
 abbrev pub onward : Option ℕ → (ℕ → List ℕ) → List ℕ
 onward None rest = []

@@ -1,6 +1,7 @@
 pub mod States
 pub mod Values
 pub mod Keys
+pub mod Choices
 pub mod Turns
 pub mod Calls
 pub mod Pasts

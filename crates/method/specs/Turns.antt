@@ -8,18 +8,13 @@ use Rattle.std.specs.declared.option.Option.the-variants.{Some, None}
 use Rattle.terms.specs.Amounts.{far}
 use Rattle.ground.specs.Meanings.{Meaning}
 use Rattle.method.specs.States.{State, put}
+use Rattle.method.specs.Choices.{best}
 use Rattle.method.specs.Values.{rhs, over, level, openPlaces}
 use Rattle.method.specs.Keys.{Key, before, key}
 
--- of two places the one with the smaller key, the first of them where the keys are equal
-abbrev pub sooner : (ℕ → Key) → ℕ → Option ℕ → Option ℕ
-sooner key p None = Some p
-sooner key p (Some q) = cond (before (key q) (key p)) (Some q) (Some p)
-
 -- of places in rising number the one with the smallest key, the lowest number among equal keys
 abbrev pub soonest : (ℕ → Key) → List ℕ → Option ℕ
-soonest key [] = None
-soonest key (p ∷ ps) = sooner key p (soonest key ps)
+soonest key ps = best (λ q p. before (key q) (key p)) ps
 
 -- every element passes
 abbrev pub allOf : (ℕ → Bool) → List ℕ → Bool
