@@ -1,0 +1,3 @@
+mod Contests
+mod Least
+mod Paths

@@ -1,0 +1,4 @@
+pub mod Content
+pub mod Keys
+pub mod Order
+pub mod Tree

@@ -1,0 +1,29 @@
+// One entry of the table that a queue works in.
+ghost use mathlib.Core.Path.{_≡_};
+ghost use mathlib.Core.Bool.{false};
+
+#[derive(Clone, Copy, Default)]
+pub struct Entry<K> {
+    pub(crate) key: K,
+    // the slot that wins at the node of this entry's index
+    pub(crate) winner: usize,
+    pub(crate) number: u32,
+    pub(crate) live: bool,
+    // an entry whose home is this slot may stand in another
+    pub(crate) strayed: bool,
+}
+
+impl<K> Entry<K> {
+    // A free entry, to make a table of, or to wipe one with.
+    pub fn free(key: K) -> Self
+        ensures { λ r. ⌜ r ≡ record { key = key; winner = 0; number = 0; live = false; strayed = false } ⌝ }
+    {
+        Entry {
+            key,
+            winner: 0,
+            number: 0,
+            live: false,
+            strayed: false,
+        }
+    }
+}
