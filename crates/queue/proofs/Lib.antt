@@ -1,3 +1,4 @@
 mod Contests
 mod Least
 mod Paths
+mod Walks
