@@ -1,3 +1,4 @@
+mod Clears
 mod Contests
 mod Least
 mod Paths

@@ -1,4 +1,5 @@
 pub mod Content
 pub mod Keys
 pub mod Order
+pub mod Sound
 pub mod Tree
