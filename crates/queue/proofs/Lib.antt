@@ -1,5 +1,7 @@
 mod Clears
+mod Contents
 mod Contests
+mod Finds
 mod Least
 mod Paths
 mod Walks

@@ -1,3 +1,4 @@
+pub mod Calls
 pub mod Content
 pub mod Keys
 pub mod Order

@@ -1,5 +1,7 @@
 // A priority queue over a lent slice of entries, for any kind of key that has a total order.
+mod calls;
 pub mod entry;
 pub mod key;
 pub mod order;
+mod slots;
 mod tree;

@@ -1,0 +1,48 @@
+// The calls of the queue, over the table itself.
+ghost use mathlib.Core.Path.{_≡_};
+ghost use Rattle.queue.specs.Calls.{HandedOut, PutDone, SmallestIs, Withdrawn};
+use crate::entry::Entry;
+use crate::order::TotalOrder;
+use crate::slots::{choose, find, mark};
+use crate::tree::{fill, leading_slot, release};
+use terms::refusal::Refusal;
+
+pub(crate) fn put<K: TotalOrder>(es: &mut [Entry<K>], number: u32, key: K) -> Result<(), Refusal>
+    ensures { λ r. ⌜ PutDone (K·TotalOrder .upto) number key (now (es .entry)) (now (es .exit)) r ⌝ }
+{
+    let Some(slot) = choose(es, number) else {
+        return Err(Refusal::QueueFull);
+    };
+    mark(es, slot, number);
+    fill(es, slot, number, key);
+    Ok(())
+}
+
+pub(crate) fn smallest<K: TotalOrder>(es: &[Entry<K>]) -> Option<(u32, K)>
+    ensures { λ r. ⌜ SmallestIs (K·TotalOrder .upto) (now (es .entry)) r ⌝ }
+{
+    let slot = leading_slot(es)?;
+    Some((es[slot].number, es[slot].key))
+}
+
+pub(crate) fn take_smallest<K: TotalOrder>(es: &mut [Entry<K>]) -> Option<(u32, K)>
+    ensures { λ r. ⌜ HandedOut (K·TotalOrder .upto) (now (es .entry)) (now (es .exit)) r ⌝ }
+{
+    let Some(slot) = leading_slot(es) else {
+        return None;
+    };
+    let e = es[slot];
+    release(es, slot);
+    Some((e.number, e.key))
+}
+
+pub(crate) fn withdraw<K: TotalOrder>(es: &mut [Entry<K>], number: u32) -> Option<K>
+    ensures { λ r. ⌜ Withdrawn (K·TotalOrder .upto) number (now (es .entry)) (now (es .exit)) r ⌝ }
+{
+    let Some(slot) = find(es, number) else {
+        return None;
+    };
+    let e = es[slot];
+    release(es, slot);
+    Some(e.key)
+}
