@@ -6,6 +6,7 @@ use mathlib.Core.Path.{_≡_, refl, sym, ap, subst, _∙_}
 use native.Mathlib.Omega.{arith}
 use Prim.Native.Nat.{ℕ, zero, suc, _+_, _-_, _%_, _<_, _≤_}
 use lib.ListN.{length, getD, set}
+use Rattle.std.specs.Options.{isSome}
 use Rattle.std.specs.declared.option.Option.{Option}
 use Rattle.std.specs.declared.option.Option.the-variants.{Some, None}
 use Rattle.std.proofs.shelf.Lists.{getD-map, getD-past, length-map, map-set, getD-set-same, getD-set-other}
@@ -30,6 +31,9 @@ module _ {K : Type 0} (es : List (Entry K)) where
 
   pub free-read : (i : ℕ) (d : Entry K) → i < length es → getD es i d .live ≡ false → getD (items es) i None ≡ None
   free-read i d l h = getD-map itemOf es i d None l ∙ cond-false _ _ _ h
+
+  pub some-read : (i : ℕ) (d : Entry K) → i < length es → getD es i d .live ≡ true → isSome (getD (items es) i None) ≡ true
+  some-read i d l h = ap isSome (getD-map itemOf es i d None l ∙ cond-true _ _ _ h)
 
   -- past the table there is nothing
   pub absent-past : (n s : ℕ) → length es ≤ s → under (getD (items es) s None) n ≡ false

@@ -1,3 +1,4 @@
+mod Acts
 mod Clears
 mod Contents
 mod Contests

@@ -21,8 +21,11 @@ pub(crate) fn put<K: TotalOrder>(es: &mut [Entry<K>], number: u32, key: K) -> Re
 pub(crate) fn smallest<K: TotalOrder>(es: &[Entry<K>]) -> Option<(u32, K)>
     ensures { λ r. ⌜ SmallestIs (K·TotalOrder .upto) (now (es .entry)) r ⌝ }
 {
-    let slot = leading_slot(es)?;
-    Some((es[slot].number, es[slot].key))
+    let Some(slot) = leading_slot(es) else {
+        return None;
+    };
+    let e = es[slot];
+    Some((e.number, e.key))
 }
 
 pub(crate) fn take_smallest<K: TotalOrder>(es: &mut [Entry<K>]) -> Option<(u32, K)>
