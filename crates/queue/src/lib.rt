@@ -3,5 +3,6 @@ mod calls;
 pub mod entry;
 pub mod key;
 pub mod order;
+pub mod queue;
 mod slots;
 mod tree;
