@@ -2,6 +2,7 @@ mod Acts
 mod Clears
 mod Contents
 mod Contests
+mod Drains
 mod Finds
 mod Least
 mod Paths
