@@ -48,13 +48,13 @@ module _ {K : Type 0} (es : List (Entry K)) where
   -- with its home unmarked, a number that is not at home is nowhere
   pub absent-home : (n h : ℕ) (d : Entry K) → h ≡ n % length es → h < length es → under (getD (items es) h None) n ≡ false → getD es h d .strayed ≡ false → Homed (length es) (items es) (strays es) → Absent (items es) n
   absent-home n h d at l away plain homed s =
-      elim (cases-bool (under (getD (items es) s None) n))
-      [ inl t ↦ absurd
-          (elim (homed s n t)
-            [ inl q ↦ (let P : ℕ → Type 0 = λ j. under (getD (items es) j None) n ≡ false in both-ways _ (subst P (at ∙ sym q) away) t)
-            | inr m ↦ (let P : ℕ → Type 0 = λ j. getD (strays es) j false ≡ false in both-ways _ (subst P at (getD-map (λ x. x .strayed) es h d false l ∙ plain)) m)
+      elim (cases-bool (under (getD (items es) s None) n)) [
+        | inl t ↦ absurd
+            (elim (homed s n t) [
+              | inl q ↦ (let P : ℕ → Type 0 = λ j. under (getD (items es) j None) n ≡ false in both-ways _ (subst P (at ∙ sym q) away) t)
+              | inr m ↦ (let P : ℕ → Type 0 = λ j. getD (strays es) j false ≡ false in both-ways _ (subst P at (getD-map (λ x. x .strayed) es h d false l ∙ plain)) m)
             ])
-      | inr f ↦ f
+        | inr f ↦ f
       ]
 
   -- ---- the slot that is chosen
@@ -76,13 +76,13 @@ module _ {K : Type 0} (es : List (Entry K)) where
         same = blind es h d e itemOf hi;
         tree = blind es h d e (λ x. x .winner) hw;
         kept = λ j t. let P : List Bool → Type 0 = λ zs. getD zs j false ≡ true in
-          subst P (sym (map-set (λ x. x .strayed) es h e))
-          (elim (cases-eq j h)
-            [ inl q ↦ (let Q : ℕ → Type 0 = λ i. getD (set (strays es) h (e .strayed)) i false ≡ true in subst Q (sym q) here)
-            | inr ne ↦ getD-set-other (strays es) h j (e .strayed) false ne ∙ t
+            subst P (sym (map-set (λ x. x .strayed) es h e))
+            (elim (cases-eq j h) [
+              | inl q ↦ (let Q : ℕ → Type 0 = λ i. getD (set (strays es) h (e .strayed)) i false ≡ true in subst Q (sym q) here)
+              | inr ne ↦ getD-set-other (strays es) h j (e .strayed) false ne ∙ t
             ]);
         known = inr (let P : List Bool → Type 0 = λ zs. getD zs (n % length es) false ≡ true in
-          subst P (sym (map-set (λ x. x .strayed) es h e)) (let Q : ℕ → Type 0 = λ i. getD (set (strays es) h (e .strayed)) i false ≡ true in subst Q at here))
+            subst P (sym (map-set (λ x. x .strayed) es h e)) (let Q : ℕ → Type 0 = λ i. getD (set (strays es) h (e .strayed)) i false ≡ true in subst Q at here));
       }
     where
       here : getD (set (strays es) h (e .strayed)) h false ≡ true

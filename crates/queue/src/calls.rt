@@ -3,8 +3,12 @@ ghost use mathlib.Core.Path.{_≡_};
 ghost use Rattle.queue.specs.Calls.{HandedOut, PutDone, SmallestIs, Withdrawn};
 use crate::entry::Entry;
 use crate::order::TotalOrder;
-use crate::slots::{choose, find, mark};
-use crate::tree::{fill, leading_slot, release};
+use crate::slots::choose;
+use crate::slots::find;
+use crate::slots::mark;
+use crate::tree::fill;
+use crate::tree::leading_slot;
+use crate::tree::release;
 use terms::refusal::Refusal;
 
 pub(crate) fn put<K: TotalOrder>(es: &mut [Entry<K>], number: u32, key: K) -> Result<(), Refusal>
