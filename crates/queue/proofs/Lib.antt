@@ -6,4 +6,6 @@ mod Drains
 mod Finds
 mod Least
 mod Paths
+mod Rooms
 mod Walks
+mod Wipes

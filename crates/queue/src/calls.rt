@@ -1,6 +1,10 @@
 // The calls of the queue, over the table itself.
 ghost use mathlib.Core.Path.{_≡_};
-ghost use Rattle.queue.specs.Calls.{HandedOut, PutDone, SmallestIs, Withdrawn};
+ghost use Rattle.queue.specs.Calls.{HandedOut, Low, PutDone, SmallestIs, Withdrawn};
+ghost use Rattle.queue.specs.Sound.{Sound};
+ghost use Rattle.std.specs.declared.result.Result.the-variants.{Ok};
+ghost use Prim.Native.Nat.{_<_};
+ghost use lib.ListN.{length};
 use crate::entry::Entry;
 use crate::order::TotalOrder;
 use crate::slots::choose;
@@ -12,7 +16,8 @@ use crate::tree::release;
 use terms::refusal::Refusal;
 
 pub(crate) fn put<K: TotalOrder>(es: &mut [Entry<K>], number: u32, key: K) -> Result<(), Refusal>
-    ensures { λ r. ⌜ PutDone (K·TotalOrder .upto) number key (now (es .entry)) (now (es .exit)) r ⌝ }
+    ensures done { λ r. ⌜ PutDone (K·TotalOrder .upto) number key (now (es .entry)) (now (es .exit)) r ⌝ }
+    ensures low { λ r. ⌜ (Sound (K·TotalOrder .upto) (now (es .entry)) → Low (now (es .entry)) → number < length (now (es .entry)) → r ≡ Ok tt) ⌝ }
 {
     let Some(slot) = choose(es, number) else {
         return Err(Refusal::QueueFull);

@@ -1,6 +1,7 @@
 // One entry of the table that a queue works in.
 ghost use mathlib.Core.Path.{_≡_};
-ghost use mathlib.Core.Bool.{false};
+ghost use lib.ListN.{length, replicate};
+ghost use Rattle.queue.specs.Content.{freeEntry};
 
 #[derive(Clone, Copy, Default)]
 pub struct Entry<K> {
@@ -16,7 +17,7 @@ pub struct Entry<K> {
 impl<K> Entry<K> {
     // A free entry, to make a table of, or to wipe one with.
     pub fn free(key: K) -> Self
-        ensures { λ r. ⌜ r ≡ record { key = key; winner = 0; number = 0; live = false; strayed = false } ⌝ }
+        ensures { λ r. ⌜ r ≡ freeEntry key ⌝ }
     {
         Entry {
             key,
@@ -25,5 +26,14 @@ impl<K> Entry<K> {
             live: false,
             strayed: false,
         }
+    }
+}
+
+// Wipes a table: whatever a queue left in it is gone.
+pub fn wipe<K: Copy>(entries: &mut [Entry<K>], key: K)
+    ensures { λ _. ⌜ now (entries .exit) ≡ replicate (length (now (entries .entry))) (freeEntry key) ⌝ }
+{
+    for e in entries.iter_mut() {
+        *e = Entry::free(key);
     }
 }
