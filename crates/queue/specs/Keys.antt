@@ -4,5 +4,5 @@ use lib.Dec.{leb, ltb, eqb}
 use Rattle.queue.specs.declared.key.Key.{Key}
 
 -- firsts are compared, then seconds
-abbrev pub key-upto : Key → Key → Bool
-key-upto a b = ltb (a .first) (b .first) || (eqb (a .first) (b .first) && leb (a .second) (b .second))
+abbrev pub keyUpto : Key → Key → Bool
+keyUpto a b = ltb (a .first) (b .first) || (eqb (a .first) (b .first) && leb (a .second) (b .second))

@@ -1,6 +1,6 @@
 // The calls of the queue, over the table itself.
 ghost use mathlib.Core.Path.{_≡_};
-ghost use Rattle.queue.specs.Calls.{HandedOut, Low, PutDone, SmallestIs, Withdrawn};
+ghost use Rattle.queue.specs.Calls.{Empty, HandedOut, Low, PutDone, SmallestIs, Withdrawn};
 ghost use Rattle.queue.specs.Sound.{Sound};
 ghost use Rattle.std.specs.declared.result.Result.the-variants.{Ok};
 ghost use Prim.Native.Nat.{_<_};
@@ -10,10 +10,17 @@ use crate::order::TotalOrder;
 use crate::slots::choose;
 use crate::slots::find;
 use crate::slots::mark;
+use crate::tree::clear;
 use crate::tree::fill;
 use crate::tree::leading_slot;
-use crate::tree::release;
+use crate::tree::take_out;
 use terms::refusal::Refusal;
+
+pub(crate) fn empty<K: TotalOrder>(es: &mut [Entry<K>])
+    ensures { λ _. ⌜ Empty (K·TotalOrder .upto) (now (es .exit)) ⌝ }
+{
+    clear(es);
+}
 
 pub(crate) fn put<K: TotalOrder>(es: &mut [Entry<K>], number: u32, key: K) -> Result<(), Refusal>
     ensures done { λ r. ⌜ PutDone (K·TotalOrder .upto) number key (now (es .entry)) (now (es .exit)) r ⌝ }
@@ -43,8 +50,7 @@ pub(crate) fn take_smallest<K: TotalOrder>(es: &mut [Entry<K>]) -> Option<(u32, 
     let Some(slot) = leading_slot(es) else {
         return None;
     };
-    let e = es[slot];
-    release(es, slot);
+    let e = take_out(es, slot);
     Some((e.number, e.key))
 }
 
@@ -54,7 +60,6 @@ pub(crate) fn withdraw<K: TotalOrder>(es: &mut [Entry<K>], number: u32) -> Optio
     let Some(slot) = find(es, number) else {
         return None;
     };
-    let e = es[slot];
-    release(es, slot);
+    let e = take_out(es, slot);
     Some(e.key)
 }

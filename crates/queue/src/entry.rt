@@ -29,11 +29,18 @@ impl<K> Entry<K> {
     }
 }
 
+// Writes one entry over every other.
+fn overwrite<K: Copy>(entries: &mut [Entry<K>], value: Entry<K>)
+    ensures { λ _. ⌜ now (entries .exit) ≡ replicate (length (now (entries .entry))) value ⌝ }
+{
+    for e in entries.iter_mut() {
+        *e = value;
+    }
+}
+
 // Wipes a table: whatever a queue left in it is gone.
 pub fn wipe<K: Copy>(entries: &mut [Entry<K>], key: K)
     ensures { λ _. ⌜ now (entries .exit) ≡ replicate (length (now (entries .entry))) (freeEntry key) ⌝ }
 {
-    for e in entries.iter_mut() {
-        *e = Entry::free(key);
-    }
+    overwrite(entries, Entry::free(key));
 }

@@ -1,5 +1,5 @@
 // The planner's key: a pair of numbers.
-ghost use Rattle.queue.specs.Keys.{«key-upto»};
+ghost use Rattle.queue.specs.Keys.{keyUpto};
 use crate::order::TotalOrder;
 
 #[derive(Clone, Copy, Debug, Default, PartialEq, Eq)]
@@ -10,7 +10,7 @@ pub struct Key {
 
 // Firsts are compared, then seconds.
 pub impl TotalOrder for Key as KeyTotalOrder {
-    ghost upto = { «key-upto» };
+    ghost upto = { keyUpto };
 
     fn at_most(self, other: Key) -> bool {
         self.first < other.first || (self.first == other.first && self.second <= other.second)

@@ -8,7 +8,7 @@ pub returns-in-rest : need.returns-in-rest
 returns-in-rest g c =
     let full = c .in-rest .ensures tt in
     record {
-      done = (refl, refl, full .0, λ sd. keyIn-none _ _ (full .1 (sd .homed)));
+      done = (refl, refl {a = c .args .es .now}, full .0, λ sd. keyIn-none _ _ (full .1 (sd .homed)));
       low = λ sd low lt. absurd (not-full _ (c .args .es .now) sd low _ lt (keyIn-none _ _ (full .1 (sd .homed))) (full .0));
     }
 

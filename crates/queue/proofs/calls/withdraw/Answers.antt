@@ -9,4 +9,4 @@ returns-in-rest g c = (refl, λ sd. keyIn-none _ _ (c .in-rest .ensures tt (sd .
 pub returns : need.returns
 returns g c sd =
     let found = c .in-Some .ensures tt in
-    freed _ _ _ _ _ _ (found .0) (item-under _ _ _ (c .index-es-slot .result) (found .0) (c .index-es-slot .is) (found .1)) (c .release .ensures) sd
+    freed _ _ _ _ _ _ (found .0) (item-under _ _ _ (c .take-out-e .result) (found .0) (c .take-out-e .ensures .stood) (found .1)) (c .take-out-e .ensures .freed) sd

@@ -1,7 +1,0 @@
-use mathlib.Core.Path.{_≡_}
-use lib.ListN.{take, replicate}
-use Rattle.queue.specs.Content.{freeEntry}
-use Rattle.queue.proofs.entry.wipe.Given as given
-
-abbrev pub Inv-loop-e : given.InvT-loop-e
-Inv-loop-e g l = take (l .e-index) (l .entries) ≡ replicate (l .e-index) (freeEntry (l .key))
