@@ -13,7 +13,8 @@ use Rattle.std.proofs.shelf.Lists.{getD-map, getD-past, length-map, map-set, ge
 use Rattle.std.proofs.shelf.Tests.{cases-bool, cases-eq, cases-lt, both-ways, cond-false, cond-true}
 use Rattle.queue.specs.declared.entry.Entry.{Entry}
 use Rattle.queue.specs.Content.{itemOf, items, held, countIn}
-use Rattle.queue.specs.Sound.{under, Absent, Distinct, OnlyAt, Homed, Found, Room, Chosen, Marked}
+use Rattle.queue.specs.Sound.{under, freeOr, Absent, Distinct, OnlyAt, Homed, Found, Room, Scanned, Chosen, Marked}
+use borrow.Author.Count.{below-more}
 use Rattle.queue.specs.Tree.{strays, winners}
 use Rattle.queue.proofs.Contests.{item-read, length-items}
 use Rattle.queue.proofs.Contents.{under-some, some-under, other-under, none-under, count-full}
@@ -67,6 +68,36 @@ module _ {K : Type 0} (es : List (Entry K)) where
   pub chosen-free : (n : ℕ) (r : Option ℕ) → Found es n None → Room es r → Chosen es n r
   chosen-free n (Some s) f r = (r .0, λ m ne. none-under _ m (r .1), λ homed distinct t ne. f homed t)
   chosen-free n None f r = (r, f)
+
+  pub chosen-scanned : (n : ℕ) (r : Option ℕ) → Scanned es n r → Chosen es n r
+  chosen-scanned n (Some s) (l, inl u) = chosen-found n s (l, u)
+  chosen-scanned n (Some s) (l, inr w) = chosen-free n (Some s) (λ _. w .1) (l, w .0)
+  chosen-scanned n None r = chosen-free n None (λ _. r .1) (r .0)
+
+  -- ---- one scan for both
+
+  -- the free slot found so far, or that all slots so far are taken
+  unfoldable pub Freest : ℕ → Option ℕ → Type 0
+  Freest i (Some s) = (s < i) × (getD (items es) s None ≡ None)
+  Freest i None = (s : ℕ) → s < i → getD (items es) s None ≡ None → ⊥
+
+  pub freest-none : Freest 0 None
+  unfolding Freest
+  freest-none s l = absurd (omega arith)
+
+  freest-step : (i : ℕ) (x : Option (ℕ × K)) (f : Option ℕ) → getD (items es) i None ≡ x → Freest i f → Freest (i + 1) (freeOr x i f)
+  unfolding Freest
+  freest-step i None f e h = (omega arith, e)
+  freest-step i (Some x) (Some s) e h = (omega (arith, h .0), h .1)
+  freest-step i (Some x) None e h = below-more _ _ h (λ z. let q : Some x ≡ None = sym e ∙ z in let o : _≡_ {A = ℕ} 0 1 = cc q in omega arith)
+
+  pub freest-more : (i : ℕ) (e : Entry K) (f r : Option ℕ) → i < length es → e ≡ getD es i e → Freest i f → r ≡ freeOr (itemOf e) i f → Freest (i + 1) r
+  freest-more i e f r l at h q = let P : Option ℕ → Type 0 = λ z. Freest (i + 1) z in subst P (sym q) (freest-step i (itemOf e) f (item-read es i e l at) h)
+
+  pub scanned-all : (n i : ℕ) (f : Option ℕ) → i ≤ length es → length es ≤ i → Freest i f → ((s : ℕ) → s < i → under (getD (items es) s None) n ≡ false) → Scanned es n f
+  unfolding Freest
+  scanned-all n i (Some s) l g h away = (omega (arith, h .0), inr (h .1, absent-all n i g away))
+  scanned-all n i None l g h away = (full-all i g h, absent-all n i g away)
 
   -- ---- the mark
 

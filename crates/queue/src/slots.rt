@@ -3,7 +3,7 @@ ghost use mathlib.Core.Path.{_≡_};
 ghost use Prim.Native.Nat.{ℕ, _%_, _<_};
 ghost use lib.ListN.{length, getD};
 ghost use Rattle.queue.specs.Content.{itemOf, items};
-ghost use Rattle.queue.specs.Sound.{under, Absent, Chosen, Found, Marked, Room};
+ghost use Rattle.queue.specs.Sound.{under, freeOr, Absent, Chosen, Found, Marked, Room, Scanned};
 ghost use Rattle.std.specs.Options.{Cases as BySome};
 ghost use Rattle.std.specs.declared.option.Option.the-variants.{None};
 ghost use mathlib.Core.Bool.{true};
@@ -81,13 +81,42 @@ fn find_free<K>(es: &[Entry<K>], number: u32) -> Option<usize>
     scan_free(es)
 }
 
+// The slot that is free, where this one is, else the one that was found before.
+fn free_or<K>(e: &Entry<K>, slot: usize, earlier: Option<usize>) -> Option<usize>
+    ensures { λ r. ⌜ r ≡ freeOr (itemOf (now (e .entry))) slot earlier ⌝ }
+{
+    if e.live { earlier } else { Some(slot) }
+}
+
+// Looks at every slot for the number, and else for a free one.
+fn scan_both<K>(es: &[Entry<K>], number: u32) -> Option<usize>
+    ensures { λ r. ⌜ Scanned (now (es .entry)) number r ⌝ }
+{
+    let mut free = None;
+    for (slot, e) in es.iter().enumerate() {
+        if holds(e, number) {
+            return Some(slot);
+        }
+        free = free_or(e, slot, free);
+    }
+    free
+}
+
 // The slot that a key under the number is to take: the one that holds the number, else a free one.
 pub(crate) fn choose<K>(es: &[Entry<K>], number: u32) -> Option<usize>
     ensures { λ r. ⌜ Chosen (now (es .entry)) number r ⌝ }
 {
-    match find(es, number) {
-        Some(slot) => Some(slot),
-        None => find_free(es, number),
+    if es.is_empty() {
+        return None;
+    }
+    let home = home_of(es.len(), number);
+    if holds(&es[home], number) {
+        return Some(home);
+    }
+    if es[home].strayed {
+        scan_both(es, number)
+    } else {
+        find_free(es, number)
     }
 }
 
