@@ -89,15 +89,18 @@ fn mix(size: usize, calls: usize, rising: bool) -> Vec<Step> {
     steps
 }
 
-fn best_of(runs: usize, mut run: impl FnMut() -> u64) -> (Duration, u64) {
-    let mut best = Duration::MAX;
-    let mut sum = 0;
-    for _ in 0..runs {
-        let start = Instant::now();
-        sum = run();
-        best = best.min(start.elapsed());
+/// The best times of two runs that take turns, so that other work on the machine falls on both, and what they answered.
+fn best_in_turn(rounds: usize, runs: [&dyn Fn() -> u64; 2]) -> ([Duration; 2], [u64; 2]) {
+    let mut best = [Duration::MAX; 2];
+    let mut sums = [0; 2];
+    for _ in 0..rounds {
+        for (i, run) in runs.iter().enumerate() {
+            let start = Instant::now();
+            sums[i] = run();
+            best[i] = best[i].min(start.elapsed());
+        }
     }
-    (best, sum)
+    (best, sums)
 }
 
 /// A million mixed calls: the time of the queue over that of the heap, each the best of several runs.
@@ -106,9 +109,8 @@ pub fn time() {
     for size in [1_024, 16_384] {
         for (rising, keys) in [(true, "rising keys"), (false, "even keys")] {
             let steps = mix(size, CALLS, rising);
-            let (queue, told) = best_of(9, || abi::queue_sum(size, &steps));
-            let (heap, expected) = best_of(9, || heap_sum(size, &steps));
-            assert_eq!(told, expected, "the queue and the heap answer alike");
+            let ([queue, heap], sums) = best_in_turn(15, [&|| abi::queue_sum(size, &steps), &|| heap_sum(size, &steps)]);
+            assert_eq!(sums[0], sums[1], "the queue and the heap answer alike");
             let each = |d: Duration| d.as_nanos() as f64 / steps.len() as f64;
             let ratio = queue.as_secs_f64() / heap.as_secs_f64();
             println!(
