@@ -1,0 +1,6 @@
+pub mod Calls
+pub mod Content
+pub mod Keys
+pub mod Runs
+pub mod Sound
+pub mod Tree
