@@ -1,4 +1,5 @@
 // The method: what a plan's calls do, as definitions over a ground's meaning, and the route promise proved over them.
+ghost use Rattle.method.specs.Agreement.{AgreementLaw};
 ghost use Rattle.method.specs.Handed.{BeginLaw};
 ghost use Rattle.method.specs.Laws.{ChoiceLaws};
 ghost use Rattle.method.specs.Promise.{RoutePromiseHolds};
@@ -22,4 +23,11 @@ pub fn begin_law() -> u8
     ensures { λ _. ⌜ BeginLaw ⌝ }
 {
     3
+}
+
+// The agreement law stands: what a call answers and leaves does not depend on what a state holds beyond the ground. The figure is the number of its parts.
+pub fn agreement_law() -> u8
+    ensures { λ _. ⌜ AgreementLaw ⌝ }
+{
+    2
 }
