@@ -1,7 +1,5 @@
 // The slack: how many sixteenths of the cheapest sum a route may cost, 16 (the cheapest itself) to 160 (ten times).
-ghost use mathlib.Core.Path.{_≡_};
 ghost use Prim.Native.Nat.{_≤_};
-use crate::refusal::Refusal;
 
 #[derive(Clone, Copy)]
 pub struct Slack {
