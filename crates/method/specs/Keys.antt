@@ -10,7 +10,7 @@ pub record Key : Type 0 where
   pub first : ℕ
   pub second : ℕ
 
--- first numbers are compared, and then second ones; key numbers are never capped
+-- ordered by the first number, and by the second where the first are equal; no cap applies
 abbrev pub before : Key → Key → Bool
 before k l = ltb (k .first) (l .first) || (eqb (k .first) (l .first) && ltb (k .second) (l .second))
 
