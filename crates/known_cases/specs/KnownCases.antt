@@ -56,5 +56,5 @@ pub record KnownCases : Type 0 where
   pub slack-ends : InRange 16 × InRange 160 × (InRange 15 → ⊥) × (InRange 161 → ⊥)
   -- after the first search
   pub first-search : values (after (begun site drive) (search-for 9 ∷ [])) ≡ 9 ∷ 5 ∷ far ∷ 0 ∷ []
-  -- after arc 1 is set to 20 and one more turn is made
+  -- one turn after arc 1 came to cost 20
   pub after-the-cut : values (after (begun site drive) (search-for 9 ∷ set-cost 1 20 ∷ search-for 1 ∷ [])) ≡ 9 ∷ far ∷ far ∷ 0 ∷ []

@@ -112,7 +112,7 @@ module _ (m : Meaning) (law : Lawful m) (s : State) (sound : Sound m s) where
         near = omega (arith, law .estimate-self (s .here) (sound .standing .here-in));
       })
 
-  -- sixteen times its sum is at most the slack times the sum of any chain
+  -- in sixteenths of any chain's sum, its own does not pass the slack
   pub route-slack : End m s → s .g (s .here) < far → (other : List ℕ) → Chain m (s .here) other (s .landing) → 16 * cappedSum (s .cost) (routeOf m s) ≤ s .slack * cappedSum (s .cost) other
   route-slack end low other chain =
       let arrives = route-arrives end low in

@@ -29,7 +29,7 @@ abbrev pub isShort : Lent → Bool
 isShort [] = false
 isShort (table ∷ tables) = ltb (table .0) (table .1) || isShort tables
 
--- Set, Search and Route are given the ground again
+-- whether the call looks at the ground once more
 abbrev pub givenGround : Call → Bool
 givenGround (set-cost j c) = true
 givenGround (move-to p) = false

@@ -107,7 +107,7 @@ costGiven i (called (route-into entries) a) = None
 costGiven i (called (sum-of js) a) = None
 costGiven i (turned-away refusal) = None
 
--- here, the slack and the costs are those that the accepted calls gave last
+-- what stands now: the last that a call gave and that was carried out
 abbrev pub hereIn : Begin → Past → ℕ
 hereIn b es = latest placeGiven (b .here) es
 
@@ -145,7 +145,7 @@ settling (called (route-into entries) a) = None
 settling (called (sum-of js) a) = None
 settling (turned-away refusal) = None
 
--- the latest accepted Search said Settled, and no Set, Move or Stretch was accepted since
+-- the last search that was carried out ended Settled, and nothing altered the plan after it
 abbrev pub settledIn : Past → Bool
 settledIn es = latest settling false es
 

@@ -19,7 +19,7 @@ Once [] = Unit {0}
 Once (p ∷ ps) = All (λ q. q ≡ p → ⊥) ps × Once ps
 
 module _ (m : Meaning) (b : Begin) (past : Past) where
-  -- a chain of open arcs that joins here to the landing
+  -- open arcs, one after the other, from here to the landing
   abbrev pub OpenChain : List ℕ → Type 0
   OpenChain js = Chain m (hereIn b past) js (b .landing) × All (λ j. costIn m past j < far) js
 

@@ -26,7 +26,7 @@ isNone [] = true
 isNone (p ∷ ps) = false
 
 module _ (m : Meaning) where
-  -- here's key comes after the key of p; level at far, here's key comes after every other
+  -- p comes before here by its key; before a here that is level at far, every place does
   abbrev pub hereAfter : State → ℕ → Bool
   hereAfter s p = eqb (s .g (s .here)) far || before (key m s p) (key m s (s .here))
 

@@ -1,4 +1,4 @@
-// What a driver is told of a typed sheet: each arc, then how many places and arcs there are; or why the sheet is refused.
+// What a driver is told of a typed sheet: every arc and the two counts, or why the sheet is refused.
 ghost use mathlib.Core.Path.{_≡_};
 ghost use mathlib.Core.List.{_++_};
 ghost use Rattle.std.specs.Of.String.{string-bytes};

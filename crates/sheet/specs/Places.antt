@@ -8,6 +8,6 @@ use Rattle.terms.specs.declared.arc.Arc.{Arc}
 abbrev pub reach : ℕ → Arc → ℕ
 reach places a = max (max places (a .tail + 1)) (a .head + 1)
 
--- the highest place number plus 1, or 0 without arcs
+-- one more than the highest place number; none if there is no arc
 abbrev pub placesOf : List Arc → ℕ
 placesOf arcs = folded reach 0 arcs

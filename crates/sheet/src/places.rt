@@ -3,7 +3,7 @@ ghost use mathlib.Core.Path.{_≡_};
 ghost use Rattle.sheet.specs.Places.{placesOf};
 use terms::arc::Arc;
 
-// The highest place number plus 1, or 0 without arcs.
+// One more than the highest place number; none if there is no arc.
 pub fn places(arcs: &[Arc]) -> u64
     ensures { λ r. ⌜ r ≡ placesOf (now (arcs .entry)) ⌝ }
 {

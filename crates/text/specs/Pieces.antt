@@ -17,7 +17,7 @@ abbrev pub pieces : ℕ → List (List ℕ) → List ℕ → List (List ℕ)
 pieces stop last [] = last
 pieces stop last (b ∷ bs) = cond (eqb b stop) ([] ∷ pieces stop last bs) (onto b (pieces stop last bs))
 
--- a line ends with byte 10 or with the text; a last byte 10 opens no further line
+-- byte 10 ends a line, and so does the end of the text; a last byte 10 opens no further line
 abbrev pub linesOf : List ℕ → List (List ℕ)
 linesOf = pieces 10 []
 

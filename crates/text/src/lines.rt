@@ -7,7 +7,7 @@ ghost use Rattle.std.specs.Options.{Cases};
 ghost use Rattle.text.specs.Pieces.{linesOf};
 use crate::cut::bytes_before;
 
-// Each line ends with byte 10 or with the text; a last byte 10 opens no further line.
+// Byte 10 ends a line, and so does the end of the text; a last byte 10 opens no further line.
 #[derive(Drop)]
 pub struct Lines<'a> {
     rest: &'a [u8],
