@@ -1,0 +1,3 @@
+pub mod Beside
+pub mod Leaving
+pub mod Entering

@@ -1,0 +1,5 @@
+pub mod Compass
+pub mod Grids
+pub mod GridLaws
+pub mod Made
+pub mod Entries

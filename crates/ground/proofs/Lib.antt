@@ -1,0 +1,2 @@
+pub mod ArcsAt
+pub mod Offered

@@ -1,0 +1,4 @@
+pub mod Meanings
+pub mod Questions
+pub mod Chains
+pub mod KnownLaws

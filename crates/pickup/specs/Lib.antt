@@ -1,0 +1,4 @@
+pub mod Layers
+pub mod LayerLaws
+pub mod Parts
+pub mod Crossing
