@@ -1,0 +1,11 @@
+mod Acts
+mod Clears
+mod Contents
+mod Contests
+mod Drains
+mod Finds
+mod Least
+mod Paths
+mod Rooms
+mod Walks
+mod Wipes
