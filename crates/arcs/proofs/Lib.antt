@@ -1,0 +1,2 @@
+pub mod Groups
+mod Sorting
