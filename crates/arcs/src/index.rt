@@ -1,12 +1,12 @@
 // An index of arcs by one of their ends, in two tables: an entry for each place, and an entry for each arc.
 ghost use mathlib.Core.Path.{_≡_};
-ghost use Prim.Native.Nat.{ℕ, _≤_, _<_, _^_};
+ghost use Prim.Native.Nat.{ℕ, _<_};
 ghost use lib.ListN.{length};
 ghost use Rattle.ground.specs.Questions.{arcsAt};
 ghost use Rattle.std.specs.shelf.Maps.{nth};
 ghost use mathlib.Core.List.{List};
-ghost use Rattle.arcs.specs.Index.{startOf, EndsRight, Indexed, SameFrom};
-ghost use Rattle.arcs.specs.Tables.{AllLawful, endAt};
+ghost use Rattle.arcs.specs.Index.{startOf, EndsRight, Indexable, Indexed, SameFrom};
+ghost use Rattle.arcs.specs.Tables.{endAt};
 use crate::end::End;
 use crate::lawful::first_unlawful;
 use crate::sort::count;
@@ -14,23 +14,33 @@ use crate::sort::deal;
 use crate::sort::stack;
 use terms::arc::Arc;
 
-// Indexes lawful arcs between as many places as `ends` has entries. Where the arcs are not lawful, or there are more
-// than the order holds or a number tells, nothing changes.
-pub fn index(end: End, arcs: &[Arc], ends: &mut [u32], order: &mut [u32])
-    ensures done { λ _. ⌜ (AllLawful (length (now (ends .entry))) (now (arcs .entry)) → length (now (arcs .entry)) ≤ length (now (order .entry)) → length (now (arcs .entry)) < 2 ^ 32 → Indexed (endAt end (now (arcs .entry))) (length (now (arcs .entry))) (length (now (ends .entry))) (now (ends .exit)) (now (order .exit))) ⌝ }
+// Sorts the arcs by one end into the order, and writes where each place's arcs end.
+fn sort(end: End, arcs: &[Arc], ends: &mut [u32], order: &mut [u32])
+    requires { ⌜ Indexable (length (now ends)) (now arcs) (now ends) (now order) ⌝ }
+    ensures done { λ _. ⌜ Indexed (endAt end (now (arcs .entry))) (length (now (arcs .entry))) (length (now (ends .entry))) (now (ends .exit)) (now (order .exit)) ⌝ }
     ensures beyond { λ _. ⌜ SameFrom (length (now (arcs .entry))) (now (order .entry)) (now (order .exit)) ⌝ }
-    ensures kept { λ _. ⌜ ((AllLawful (length (now (ends .entry))) (now (arcs .entry)) → length (now (arcs .entry)) ≤ length (now (order .entry)) → length (now (arcs .entry)) < 2 ^ 32 → ⊥) → (now (ends .exit) ≡ now (ends .entry)) × (now (order .exit) ≡ now (order .entry))) ⌝ }
 {
-    if arcs.len() > order.len() || arcs.len() > u32::MAX as usize {
-        return;
-    }
-    if first_unlawful(ends.len(), arcs).is_some() {
-        return;
-    }
     ends.fill(0);
     count(end, arcs, ends);
     stack(ends);
     deal(end, arcs, ends, order);
+}
+
+// Indexes lawful arcs between so many places. Where they are not lawful, or the tables are too short for them, or they
+// are more than a number tells, nothing changes.
+pub fn index(end: End, places: usize, arcs: &[Arc], ends: &mut [u32], order: &mut [u32])
+    ensures done { λ _. ⌜ (Indexable places (now (arcs .entry)) (now (ends .entry)) (now (order .entry)) → Indexed (endAt end (now (arcs .entry))) (length (now (arcs .entry))) places (now (ends .exit)) (now (order .exit))) ⌝ }
+    ensures ends { λ _. ⌜ SameFrom places (now (ends .entry)) (now (ends .exit)) ⌝ }
+    ensures order { λ _. ⌜ SameFrom (length (now (arcs .entry))) (now (order .entry)) (now (order .exit)) ⌝ }
+    ensures kept { λ _. ⌜ ((Indexable places (now (arcs .entry)) (now (ends .entry)) (now (order .entry)) → ⊥) → (now (ends .exit) ≡ now (ends .entry)) × (now (order .exit) ≡ now (order .entry))) ⌝ }
+{
+    if places > ends.len() || arcs.len() > order.len() || arcs.len() > u32::MAX as usize {
+        return;
+    }
+    if first_unlawful(places, arcs).is_some() {
+        return;
+    }
+    sort(end, arcs, &mut ends[0..places], order);
 }
 
 // The place in the order where the arcs at a place start.
