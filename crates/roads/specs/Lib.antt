@@ -1,0 +1,4 @@
+pub mod Heights
+pub mod RoadLaws
+pub mod Loads
+pub mod Tables

@@ -1,0 +1,3 @@
+// Roads: a ground over lent tables.
+mod check;
+pub mod roads;
