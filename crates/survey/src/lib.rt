@@ -1,0 +1,2 @@
+// Survey: the least sums of least costs from one place.
+mod spread;
