@@ -1,3 +1,5 @@
 mod Chaining
 mod Relaxing
 mod Spreading
+mod Measuring
+mod Answering
