@@ -1,0 +1,5 @@
+mod Chaining
+mod Relaxing
+mod Spreading
+mod Measuring
+mod Answering
