@@ -37,5 +37,5 @@ pub struct Roads<'a, 't> {
     ghost enterersRight: { OrderRight (endAt Head (arcs .now)) (length (arcs .now)) (enterers .now) },
 }
 
-mod ground;
+pub mod ground;
 pub mod load;
