@@ -3,6 +3,7 @@ mod abi;
 mod heap;
 mod queue;
 mod random;
+mod roads;
 
 fn main() {
     let wanted: Vec<String> = std::env::args().skip(1).collect();
@@ -10,5 +11,9 @@ fn main() {
     if runs("queue") {
         queue::compare();
         queue::time();
+    }
+    if runs("roads") {
+        roads::compare();
+        roads::time();
     }
 }
