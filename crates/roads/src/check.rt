@@ -48,7 +48,6 @@ pub(crate) fn first_steep(places: usize, arcs: &[Arc], heights: &[u32]) -> Optio
     None
 }
 
-
 // Copies the first heights.
 pub(crate) fn copy(places: usize, from: &[u32], to: &mut [u32])
     requires from { ⌜ places ≤ length (now from) ⌝ }

@@ -17,11 +17,31 @@ ghost-self c =
     let acc = subst (λ (r : Roads). Accepted n arcs (c .args .heights .now) (tablesOf r)) (sym e) (c .pre) in
     let copied = c .copy .ensures .copied in
     let out = c .index .ensures .done (record { places = acc .fits .leaving; room = acc .fits .leavers; few = omega (arith, acc .within .few-arcs); lawful = acc .lawful }) in
-    let into = c .index-2 .ensures .done (record { places = acc .fits .entering; room = acc .fits .enterers; few = omega (arith, acc .within .few-arcs); lawful = acc .lawful }) in
-    (c .pre .within .few-places, (c .pre .within .few-arcs, (λ j h. c .pre .lawful j h .tail-in, (λ j h. c .pre .lawful j h .head-in, (λ j h. c .pre .lawful j h .least-low, (λ j h. c .pre .lawful j h .least-high,
-     (λ p h. omega (arith, copied p h, c .pre .within .low p h),
-     (λ j h. omega (arith, copied (arcAt arcs j .head) (c .pre .lawful j h .head-in), copied (arcAt arcs j .tail) (c .pre .lawful j h .tail-in), c .pre .steps j h),
-     (omega (arith, acc .fits .kept, c .copy .kept .to), (out .places, (out .arcs, (into .places, (into .arcs, (out .ends-right, (out .order-right, (into .ends-right, (into .order-right, tt)))))))))))))))))
+    let into = c .index-2 .ensures .done (record { places = acc .fits .entering; room = acc .fits .enterers; few = omega (arith, acc .within .few-arcs); lawful = acc .lawful }) in (
+      c .pre .within .few-places,
+      (
+        c .pre .within .few-arcs,
+        (
+          λ j h. c .pre .lawful j h .tail-in,
+          (
+            λ j h. c .pre .lawful j h .head-in,
+            (
+              λ j h. c .pre .lawful j h .least-low,
+              (
+                λ j h. c .pre .lawful j h .least-high,
+                (
+                  λ p h. omega (arith, copied p h, c .pre .within .low p h),
+                  (
+                    λ j h. omega (arith, copied (arcAt arcs j .head) (c .pre .lawful j h .head-in), copied (arcAt arcs j .tail) (c .pre .lawful j h .tail-in), c .pre .steps j h),
+                    (omega (arith, acc .fits .kept, c .copy .kept .to), (out .places, (out .arcs, (into .places, (into .arcs, (out .ends-right, (out .order-right, (into .ends-right, (into .order-right, tt))))))))),
+                  ),
+                ),
+              ),
+            ),
+          ),
+        ),
+      ),
+    )
 
 pub returns : need.returns
 returns c =
