@@ -1,8 +1,8 @@
 // Survey and Load on tables of arcs.
+use ground::ground::Ground;
 use queue::entry::Entry;
 use roads::roads::Roads;
 use roads::roads::ground::RoadsGround;
-use ground::ground::Ground;
 use survey::survey::survey;
 use terms::arc::Arc;
 use terms::refusal::Refusal;
@@ -18,6 +18,7 @@ pub struct Strip {
 
 // The most arcs and places that a run can have.
 const ARCS: usize = 131_073;
+
 const PLACES: usize = 16_385;
 
 const NONE: Arc = Arc {
@@ -53,7 +54,12 @@ fn copy(strips: &[Strip], table: &mut [Arc]) {
 
 // Surveys from a place. The working table is part of the run.
 #[unsafe(no_mangle)]
-pub extern "C" fn roads_survey(from: u32, places: u32, strips: &[Strip], heights: &mut [u32]) -> u64 {
+pub extern "C" fn roads_survey(
+    from: u32,
+    places: u32,
+    strips: &[Strip],
+    heights: &mut [u32],
+) -> u64 {
     let mut table = [NONE; ARCS];
     copy(strips, &mut table);
     let mut ends = [0u32; PLACES];
@@ -62,12 +68,27 @@ pub extern "C" fn roads_survey(from: u32, places: u32, strips: &[Strip], heights
     let mut entries = [Entry::free(0u32); PLACES];
     let m = strips.len().min(ARCS);
     let arcs = &table[0..m];
-    coded(survey(from, places, arcs, heights, &mut ends, &mut order, &mut sums, &mut entries))
+    coded(survey(
+        from,
+        places,
+        arcs,
+        heights,
+        &mut ends,
+        &mut order,
+        &mut sums,
+        &mut entries,
+    ))
 }
 
 // Loads roads, and writes the arcs that leave and enter each place, in order, one place after the other.
 #[unsafe(no_mangle)]
-pub extern "C" fn roads_load(places: u32, strips: &[Strip], heights: &[u32], left: &mut [u32], entered: &mut [u32]) -> u64 {
+pub extern "C" fn roads_load(
+    places: u32,
+    strips: &[Strip],
+    heights: &[u32],
+    left: &mut [u32],
+    entered: &mut [u32],
+) -> u64 {
     let mut table = [NONE; ARCS];
     copy(strips, &mut table);
     let mut own = [0u32; PLACES];
@@ -77,7 +98,13 @@ pub extern "C" fn roads_load(places: u32, strips: &[Strip], heights: &[u32], lef
     let mut enterers = [0u32; ARCS];
     let m = strips.len().min(ARCS);
     let arcs = &table[0..m];
-    let mut roads = Roads::empty(&mut own, &mut leaving, &mut leavers, &mut entering, &mut enterers);
+    let mut roads = Roads::empty(
+        &mut own,
+        &mut leaving,
+        &mut leavers,
+        &mut entering,
+        &mut enterers,
+    );
     let answer = roads.load(places, arcs, heights);
     let mut at = 0;
     let mut into = 0;

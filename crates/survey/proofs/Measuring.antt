@@ -16,12 +16,16 @@ use Rattle.terms.specs.declared.refusal.Refusal.{Refusal}
 module _ (from n : ℕ) (arcs : List Arc) (sums heights heights′ : List ℕ) (s : Surveyed (flat n arcs) from sums) (size : length sums ≡ n) where
   pub measured : (r : Result (Unit {0}) Refusal) → HandedOver sums heights heights′ r → Measured from n arcs heights heights′ r
   measured (Ok u) h = λ p k. subst (λ (xs : List ℕ). LeastSum (flat n arcs) from p (getD xs p 0)) (sym (h .1)) (s .reached p k (h .0 p (omega arith)))
-  measured (Err e) h =
-      (h .0, h .1, record {
-        there = omega (arith, h .2);
-        apart = s .apart (h .0) (omega (arith, h .2)) (h .3);
-        lowest = λ q k. (getD sums q 0, s .reached q (omega (arith, h .2)) (h .4 q k));
-      }, h .5)
+  measured (Err e) h = (
+    h .0,
+    h .1,
+    record {
+      there = omega (arith, h .2);
+      apart = s .apart (h .0) (omega (arith, h .2)) (h .3);
+      lowest = λ q k. (getD sums q 0, s .reached q (omega (arith, h .2)) (h .4 q k));
+    },
+    h .5,
+  )
 
   pub measured-low : HandedOver sums heights heights′ (Ok tt) → LowHeights n heights′
   measured-low h p k = omega (arith, ap (λ xs. getD xs p 0) (h .1), s .low p k (h .0 p (omega arith)))

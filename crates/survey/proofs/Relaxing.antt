@@ -67,7 +67,8 @@ module _ (g : Meaning) (from : ℕ) (j : ℕ) (pending sums : List ℕ) (es : Li
       bound = l .bound;
       relaxed = λ i k out near none. elim (cases-eq i j) [
         | inl e ↦ subst (λ (z : ℕ). getD sums (g .head z) 0 ≤ getD sums (g .tail z) 0 + g .least z) (sym e) h
-        | inr ne ↦ l .relaxed i k (λ has. elim has [ inl e ↦ ne e | inr o ↦ out o ]) near none ];
+        | inr ne ↦ l .relaxed i k (λ has. elim has [ inl e ↦ ne e | inr o ↦ out o ]) near none
+      ];
       sound = l .sound;
       low = l .low;
       known = l .known;
@@ -99,9 +100,11 @@ module _ (g : Meaning) (from : ℕ) (j : ℕ) (pending sums : List ℕ) (es : Li
     chains′ : (p : ℕ) → p < g .places → getD (set sums (g .head j) next) p 0 < far → (js : List ℕ) × Chain g from js p × (sumOf (g .least) js ≡ getD (set sums (g .head j) next) p 0)
     chains′ p h k =
         elim (cases-eq p (g .head j)) [
-          | inl e ↦ (let w = l .chains (g .tail j) tail-in near in
-              (w .0 ++ j ∷ [], subst (λ (z : ℕ). Chain g from (w .0 ++ j ∷ []) z) (sym e) (chain-more g from (w .0) j there head-in (w .1)),
-               sum-more g (g .least) (w .0) j ∙ ap (λ z. z + g .least j) (w .2) ∙ sym is ∙ sym (now-at p e)))
+          | inl e ↦ (let w = l .chains (g .tail j) tail-in near in (
+            w .0 ++ j ∷ [],
+            subst (λ (z : ℕ). Chain g from (w .0 ++ j ∷ []) z) (sym e) (chain-more g from (w .0) j there head-in (w .1)),
+            sum-more g (g .least) (w .0) j ∙ ap (λ z. z + g .least j) (w .2) ∙ sym is ∙ sym (now-at p e),
+          ))
           | inr ne ↦ (let w = l .chains p h (omega (arith, as-was p ne)) in (w .0, w .1, w .2 ∙ sym (as-was p ne)))
         ]
 

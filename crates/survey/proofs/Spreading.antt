@@ -60,7 +60,8 @@ module _ (g : Meaning) (from : ℕ) where
     bound = l .bound;
     relaxed = λ j h out near none. elim (cases-eq (g .tail j) p) [
       | inl e ↦ (let w = arcsAt-has (g .tail) (g .arcs) p j h e in absurd (out (nth-in (arcsAt (g .tail) (g .arcs) p) (w .0) j (w .2))))
-      | inr ne ↦ l .relaxed j h (λ o. o) near (sym (changed-other es es′ p None (f .content) (g .tail j) ne) ∙ none) ];
+      | inr ne ↦ l .relaxed j h (λ o. o) near (sym (changed-other es es′ p None (f .content) (g .tail j) ne) ∙ none)
+    ];
     sound = f .sound;
     low = λ m v e. elim (cases-eq m p) [ inl h ↦ absurd (not-both (keyOf es′ m) v e (ap (keyOf es′) h ∙ changed-same es es′ p None (f .content))) | inr ne ↦ omega (arith, l .low m v (sym (changed-other es es′ p None (f .content) m ne) ∙ e)) ];
     known = λ m v e. elim (cases-eq m p) [ inl h ↦ absurd (not-both (keyOf es′ m) v e (ap (keyOf es′) h ∙ changed-same es es′ p None (f .content))) | inr ne ↦ l .known m v (sym (changed-other es es′ p None (f .content) m ne) ∙ e) ];
@@ -103,7 +104,8 @@ module _ (g : Meaning) (from : ℕ) where
     bound = λ p k near. elim (cases-eq p from) [ inl e ↦ omega (arith, here p e, reached-new sums from 0 (omega arith) (omega (arith, all from (omega arith))) (omega arith)) | inr ne ↦ absurd (omega (arith, other p ne, all p (omega arith))) ];
     relaxed = λ j k out near no. elim (cases-eq (g .tail j) from) [
       | inl e ↦ absurd (not-both (keyOf es′ (g .tail j)) 0 (ap (keyOf es′) e ∙ changed-same es es′ from (Some 0) (t .content)) no)
-      | inr ne ↦ absurd (omega (arith, other (g .tail j) ne, all (g .tail j) (omega (arith, tail-in j k)))) ];
+      | inr ne ↦ absurd (omega (arith, other (g .tail j) ne, all (g .tail j) (omega (arith, tail-in j k))))
+    ];
     sound = t .sound;
     low = λ m v e. elim (cases-eq m from) [ inl i ↦ omega arith | inr ne ↦ absurd (not-both (keyOf es′ m) v e (changed-other es es′ from (Some 0) (t .content) m ne ∙ empty .content m)) ];
     known = λ m v e. elim (cases-eq m from) [ inl i ↦ omega (arith, here m i) | inr ne ↦ absurd (not-both (keyOf es′ m) v e (changed-other es es′ from (Some 0) (t .content) m ne ∙ empty .content m)) ];

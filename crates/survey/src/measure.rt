@@ -44,7 +44,15 @@ fn hand_over(sums: &[u32], heights: &mut [u32]) -> Result<(), Refusal>
 }
 
 // Measures from a place, and leaves the working table wiped.
-pub(crate) fn measure(from: u32, arcs: &[Arc], heights: &mut [u32], ends: &mut [u32], order: &mut [u32], sums: &mut [u32], queue: &mut [Entry<u32>]) -> Result<(), Refusal>
+pub(crate) fn measure(
+    from: u32,
+    arcs: &[Arc],
+    heights: &mut [u32],
+    ends: &mut [u32],
+    order: &mut [u32],
+    sums: &mut [u32],
+    queue: &mut [Entry<u32>],
+) -> Result<(), Refusal>
     requires few { ⌜ length (now sums) ≤ 16384 ⌝ }
     requires arcs { ⌜ length (now arcs) ≤ 131072 ⌝ }
     requires start { ⌜ from < length (now sums) ⌝ }

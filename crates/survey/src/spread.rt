@@ -34,7 +34,14 @@ fn relax(arcs: &[Arc], j: u32, sums: &mut [u32], queue: &mut Queue<u32>)
 }
 
 // Relaxes every arc that leaves a place.
-fn settle(arcs: &[Arc], ends: &[u32], order: &[u32], place: u32, sums: &mut [u32], queue: &mut Queue<u32>)
+fn settle(
+    arcs: &[Arc],
+    ends: &[u32],
+    order: &[u32],
+    place: u32,
+    sums: &mut [u32],
+    queue: &mut Queue<u32>,
+)
     requires indexed { ⌜ Indexed (endAt Tail (now arcs)) (length (now arcs)) (length (now sums)) (now ends) (now order) ⌝ }
     requires lawful { ⌜ AllLawful (length (now sums)) (now arcs) ⌝ }
     requires few { ⌜ length (now arcs) ≤ 131072 ⌝ }
@@ -50,7 +57,14 @@ fn settle(arcs: &[Arc], ends: &[u32], order: &[u32], place: u32, sums: &mut [u32
 }
 
 // The least sums from a place to every place, or Far where no chain leads.
-pub(crate) fn spread(from: u32, arcs: &[Arc], ends: &[u32], order: &[u32], sums: &mut [u32], entries: &mut [Entry<u32>])
+pub(crate) fn spread(
+    from: u32,
+    arcs: &[Arc],
+    ends: &[u32],
+    order: &[u32],
+    sums: &mut [u32],
+    entries: &mut [Entry<u32>],
+)
     requires few { ⌜ length (now sums) ≤ 16384 ⌝ }
     requires arcs { ⌜ length (now arcs) ≤ 131072 ⌝ }
     requires start { ⌜ from < length (now sums) ⌝ }

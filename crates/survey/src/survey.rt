@@ -17,7 +17,15 @@ use terms::arc::Arc;
 use terms::refusal::Refusal;
 
 // Whether the heights and every column have an entry for each place or each arc.
-fn fits(places: usize, arcs: &[Arc], heights: &[u32], ends: &[u32], order: &[u32], sums: &[u32], queue: &[Entry<u32>]) -> bool
+fn fits(
+    places: usize,
+    arcs: &[Arc],
+    heights: &[u32],
+    ends: &[u32],
+    order: &[u32],
+    sums: &[u32],
+    queue: &[Entry<u32>],
+) -> bool
     ensures yes { λ r. ⌜ (r ≡ true → FitsIn places (now (arcs .entry)) (now (heights .entry)) (columns (now (ends .entry)) (now (order .entry)) (now (sums .entry)) (now (queue .entry)))) ⌝ }
     ensures no { λ r. ⌜ (r ≡ false → FitsIn places (now (arcs .entry)) (now (heights .entry)) (columns (now (ends .entry)) (now (order .entry)) (now (sums .entry)) (now (queue .entry))) → ⊥) ⌝ }
 {
@@ -29,7 +37,16 @@ fn fits(places: usize, arcs: &[Arc], heights: &[u32], ends: &[u32], order: &[u32
 }
 
 // Tries the reasons to decline before anything is measured, the topmost first.
-fn judge(from: u32, places: u32, arcs: &[Arc], heights: &[u32], ends: &[u32], order: &[u32], sums: &[u32], queue: &[Entry<u32>]) -> Result<(), Refusal>
+fn judge(
+    from: u32,
+    places: u32,
+    arcs: &[Arc],
+    heights: &[u32],
+    ends: &[u32],
+    order: &[u32],
+    sums: &[u32],
+    queue: &[Entry<u32>],
+) -> Result<(), Refusal>
     ensures { λ r. ⌜ Judged from places (now (arcs .entry)) (now (heights .entry)) (columns (now (ends .entry)) (now (order .entry)) (now (sums .entry)) (now (queue .entry))) r ⌝ }
 {
     if from >= places {
@@ -49,7 +66,16 @@ fn judge(from: u32, places: u32, arcs: &[Arc], heights: &[u32], ends: &[u32], or
 
 // Fills the heights of the first places with the least sums of least costs from one of them. A decline leaves the
 // heights; once there was something to measure, the working table is wiped as far as needed.
-pub fn survey(from: u32, places: u32, arcs: &[Arc], heights: &mut [u32], ends: &mut [u32], order: &mut [u32], sums: &mut [u32], queue: &mut [Entry<u32>]) -> Result<(), Refusal>
+pub fn survey(
+    from: u32,
+    places: u32,
+    arcs: &[Arc],
+    heights: &mut [u32],
+    ends: &mut [u32],
+    order: &mut [u32],
+    sums: &mut [u32],
+    queue: &mut [Entry<u32>],
+) -> Result<(), Refusal>
     ensures answer { λ r. ⌜ Answered from places (now (arcs .entry)) (now (heights .entry)) (now (heights .exit)) (columns (now (ends .entry)) (now (order .entry)) (now (sums .entry)) (now (queue .entry))) r ⌝ }
     ensures beyond { λ _. ⌜ SameFrom places (now (heights .entry)) (now (heights .exit)) ⌝ }
     ensures wiped { λ _. ⌜ (Ready from places (now (arcs .entry)) (now (heights .entry)) (columns (now (ends .entry)) (now (order .entry)) (now (sums .entry)) (now (queue .entry))) → Wiped places (length (now (arcs .entry))) (columns (now (ends .entry)) (now (order .entry)) (now (sums .entry)) (now (queue .entry))) (columns (now (ends .exit)) (now (order .exit)) (now (sums .exit)) (now (queue .exit)))) ⌝ }

@@ -23,9 +23,9 @@ returns-then-next-sums c =
     record {
       falls = set-lower sums (arcAt arcs j .head) _ (ok .head-in) (omega arith);
       done = λ from pending l near.
-        let e = c .put .ensures .low (l .sound) (l .low) (omega (arith, ok .head-in, l .slots)) in
-        let t = subst (λ (r : Result (Unit {0}) Refusal). PutDone leb (arcAt arcs j .head) next es es′ r) e (c .put .ensures .done) (l .sound) in
-        relax-lower (flat (length sums) arcs) from j pending sums es l es′ next (c .pre .there) (ok .tail-in) (ok .head-in) (ok .least-high) (c .put .ensures .size) near refl (omega arith) t;
+          let e = c .put .ensures .low (l .sound) (l .low) (omega (arith, ok .head-in, l .slots)) in
+          let t = subst (λ (r : Result (Unit {0}) Refusal). PutDone leb (arcAt arcs j .head) next es es′ r) e (c .put .ensures .done) (l .sound) in
+          relax-lower (flat (length sums) arcs) from j pending sums es l es′ next (c .pre .there) (ok .tail-in) (ok .head-in) (ok .least-high) (c .put .ensures .size) near refl (omega arith) t;
     }
 
 pub returns-else-next-sums : need.returns-else-next-sums

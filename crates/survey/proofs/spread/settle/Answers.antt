@@ -52,16 +52,17 @@ loop-j-again c =
     let is = sym (c .in-Some .ensures tt end m (c .pre .indexed)) in
     let w = arcsAt-at end m (c .args .place) k j is in
     let d = drop-at here k j is in
-    let e : length (c .args .sums .now) ≡ length (c .loop-j .sums) = omega (arith, c .loop-j .kept .sums) in
-    (λ p. omega (arith, c .relax .ensures .falls p, c .loop-j .inv .0 p),
-     λ from l near.
-       let o = c .loop-j .inv .1 from l near in
-       let before = subst (λ (z : ℕ). Labelled (flat z arcs) from (j ∷ drop (k + 1) here) (c .loop-j .sums) (c .loop-j .queue .entries .now)) e (subst (λ (xs : List ℕ). Labelled (flat (length (c .args .sums .now)) arcs) from xs (c .loop-j .sums) (c .loop-j .queue .entries .now)) (d .1) (o .labelled)) in
-       let r = c .relax .ensures .done from (drop (k + 1) here) before (omega (arith, c .loop-j .inv .0 (c .args .place), ap (λ p. getD (c .loop-j .sums) p 0) (w .1))) in
-       record {
-         labelled = subst (λ (z : ℕ). Labelled (flat z arcs) from (drop (k + 1) here) (c .relax .last .sums) (c .relax .last .queue .entries .now)) (sym e) (r .labelled);
-         lighter = omega (arith, o .lighter, r .lighter);
-       })
+    let e : length (c .args .sums .now) ≡ length (c .loop-j .sums) = omega (arith, c .loop-j .kept .sums) in (
+      λ p. omega (arith, c .relax .ensures .falls p, c .loop-j .inv .0 p),
+      λ from l near.
+          let o = c .loop-j .inv .1 from l near in
+          let before = subst (λ (z : ℕ). Labelled (flat z arcs) from (j ∷ drop (k + 1) here) (c .loop-j .sums) (c .loop-j .queue .entries .now)) e (subst (λ (xs : List ℕ). Labelled (flat (length (c .args .sums .now)) arcs) from xs (c .loop-j .sums) (c .loop-j .queue .entries .now)) (d .1) (o .labelled)) in
+          let r = c .relax .ensures .done from (drop (k + 1) here) before (omega (arith, c .loop-j .inv .0 (c .args .place), ap (λ p. getD (c .loop-j .sums) p 0) (w .1))) in
+          record {
+            labelled = subst (λ (z : ℕ). Labelled (flat z arcs) from (drop (k + 1) here) (c .relax .last .sums) (c .relax .last .queue .entries .now)) (sym e) (r .labelled);
+            lighter = omega (arith, o .lighter, r .lighter);
+          },
+    )
 
 pub returns : need.returns
 returns c from l near =
