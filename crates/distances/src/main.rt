@@ -1,4 +1,4 @@
-// Reads a sheet from standard input and prints the least sum from place 0 to each place, or the refusal.
+// Prints how far each place of the sheet on standard input is from place 0, or why it cannot be said.
 use queue::entry::Entry;
 use queue::entry::EntryClone;
 use sheet::places::places;

@@ -1,4 +1,4 @@
-// Survey: the least sums of least costs from one place.
+// Survey: how far every place is from one of them.
 mod measure;
 mod spread;
 pub mod survey;

@@ -64,7 +64,7 @@ fn judge(
     Ok(())
 }
 
-// Fills the heights of the first places with the least sums of least costs from one of them. A decline leaves the
+// Writes as each place's height how far it is from one of them: its least sum of least costs. A decline leaves the
 // heights; once there was something to measure, the working table is wiped as far as needed.
 pub fn survey(
     from: u32,
