@@ -1,4 +1,6 @@
 // Lines of the cab program: one line read as a call on a plan.
+#![tactic(auto)]
+
 mod few;
 mod forms;
 mod many;

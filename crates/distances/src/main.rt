@@ -1,4 +1,6 @@
 // Prints how far each place of the sheet on standard input is from place 0, or why it cannot be said.
+#![tactic(auto)]
+
 use queue::entry::Entry;
 use sheet::places::places;
 use sheet::read::read;

@@ -1,4 +1,6 @@
 // A small ground to copy from: two banks, and a ferry that crosses either way.
+#![tactic(auto)]
+
 ghost use Rattle.ferry.specs.Ferries.{crossing, crossing_lawful};
 
 use ground::ground::Ground;

@@ -1,4 +1,6 @@
 // Heights that are a function of the arcs: the least sums from a place, or 0 where Survey declines.
+#![tactic(auto)]
+
 ghost use Rattle.std.specs.Prelude.{◌≡◌, length};
 ghost use Rattle.arcs.specs.Index.{SameFrom};
 ghost use Rattle.arcs.specs.Tables.{AllLawful};

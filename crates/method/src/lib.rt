@@ -1,4 +1,6 @@
 // The method: what a plan's calls do, as definitions over a ground's meaning, and the route promise proved over them.
+#![tactic(auto)]
+
 ghost use Rattle.method.specs.Agreement.{AgreementLaw};
 ghost use Rattle.method.specs.Handed.{BeginLaw};
 ghost use Rattle.method.specs.Laws.{ChoiceLaws};

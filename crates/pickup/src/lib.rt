@@ -1,3 +1,5 @@
 // The pick-up: a layer over any ground.
+#![tactic(auto)]
+
 mod parts;
 pub mod pickup;

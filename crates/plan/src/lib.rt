@@ -1,4 +1,6 @@
 // The plan: seven calls on tables that the caller lends, over any ground.
+#![tactic(auto)]
+
 mod admit;
 pub mod answer;
 mod course;

@@ -1,4 +1,6 @@
 // The plan on examples whose answers were worked out beforehand, apart from this program.
+#![tactic(auto)]
+
 #[cfg(test)]
 mod desk;
 #[cfg(test)]

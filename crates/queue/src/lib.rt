@@ -1,4 +1,6 @@
 // A priority queue over a lent slice of entries, for any kind of key that has a total order.
+#![tactic(auto)]
+
 mod calls;
 mod drain;
 pub mod entry;

@@ -1,4 +1,6 @@
 // What a driver is told of a typed sheet: every arc and the two counts, or why the sheet is refused.
+#![tactic(auto)]
+
 ghost use Rattle.std.specs.Prelude.{◌≡◌, ◌++◌, IfOk, string_bytes, OnOk};
 ghost use Rattle.report.specs.Reports.{arcs_text, counts_text, refusal_text, report_of};
 

@@ -1,3 +1,5 @@
 // Roads: a ground over lent tables.
+#![tactic(auto)]
+
 mod check;
 pub mod roads;

@@ -1,4 +1,6 @@
 // The search over lent tables: what the tables hold, one turn, and turns until the end.
+#![tactic(auto)]
+
 mod afresh;
 pub mod aim;
 mod due;

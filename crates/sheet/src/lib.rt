@@ -1,4 +1,6 @@
 // Sheets: the arcs of a site as a person types them, a line of names and then a line of values for each arc.
+#![tactic(auto)]
+
 mod check;
 pub mod columns;
 mod extent;

@@ -1,4 +1,6 @@
 // Reads a sheet from standard input and prints what it says, arc by arc, or where and why it is faulty.
+#![tactic(auto)]
+
 use report::report;
 use std::io::Read;
 use terms::arc::Arc;

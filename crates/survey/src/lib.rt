@@ -1,4 +1,6 @@
 // Survey: how far every place is from one of them.
+#![tactic(auto)]
+
 mod measure;
 mod spread;
 pub mod survey;

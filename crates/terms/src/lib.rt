@@ -1,4 +1,6 @@
 // The terms that every other crate speaks in: amounts, the slack, arcs, faults and refusals.
+#![tactic(auto)]
+
 pub mod amount;
 pub mod arc;
 pub mod fault;
