@@ -9,4 +9,4 @@ returns-then-place-places c end m order x =
 pub returns : goal.returns
 returns c end m order x =
     let l : c.args.place < c.args.places = omega arith in
-    omega (arith, c.saturating-sub.ensures, c.start.ensures end m c.args.places l x.ends_right, x.ends_right c.args.place l)
+    omega (arith, c.saturating_sub.ensures, c.start.ensures end m c.args.places l x.ends_right, x.ends_right c.args.place l)

@@ -6,5 +6,5 @@ use Rattle.callline.proofs.sum.sum.Goals as goal
 
 pub returns : goal.returns
 returns c =
-    let counted = c.in-ok-arcs.ensures in
-    summed (fields_of c.args.text.now) c.args.list.now _ c.in-ok-arcs.arcs (some_counted c.args.text.now _ counted) (omega arith) c.write.ensures counted
+    let counted = c.in_ok-arcs.ensures in
+    summed (fields_of c.args.text.now) c.args.list.now _ c.in_ok-arcs.arcs (some_counted c.args.text.now _ counted) (omega arith) c.write.ensures counted

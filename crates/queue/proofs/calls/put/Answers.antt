@@ -4,9 +4,9 @@ use Rattle.queue.proofs.Acts.{taken_in}
 use Rattle.queue.proofs.Rooms.{not_full}
 use Rattle.queue.proofs.calls.put.Goals as goal
 
-pub returns-in-default : goal.returns-in-default
-returns-in-default g c =
-    let full = c.in-default.ensures in
+pub returns-in_default : goal.returns-in_default
+returns-in_default g c =
+    let full = c.in_default.ensures in
     record {
       done = (refl, refl {a = c.args.es.now}, full.0, λ sd. key_in-none _ _ (full.1 sd.homed));
       low = λ sd low lt. absurd (not_full _ c.args.es.now sd low _ lt (key_in-none _ _ (full.1 sd.homed)) full.0);

@@ -1,8 +1,8 @@
 use Rattle.queue.proofs.Acts.{none_left, leads, item_taken}
 use Rattle.queue.proofs.calls.smallest.Goals as goal
 
-pub returns-in-default : goal.returns-in-default
-returns-in-default g c sd = none_left _ _ sd (c.in-default.ensures sd)
+pub returns-in_default : goal.returns-in_default
+returns-in_default g c sd = none_left _ _ sd (c.in_default.ensures sd)
 
 pub returns : goal.returns
 returns g c sd =

@@ -7,7 +7,7 @@ loop-slot-init g c = (freest_none c.args.es.now, λ s l. absurd (omega arith))
 
 pub loop-slot-preserved : goal.loop-slot-preserved
 loop-slot-preserved g c = (
-  freest_more _ _ c.index-es-slot.result _ _ c.loop-slot-test.true c.index-es-slot.is c.loop-slot.invariant.0 c.free-or-free.ensures,
+  freest_more _ _ c.index-es-slot.result _ _ c.loop-slot-test.true c.index-es-slot.is c.loop-slot.invariant.0 c.free_or-free.ensures,
   below_more _ _ c.loop-slot.invariant.1 (under_read _ _ _ c.index-es-slot.result _ c.loop-slot-test.true c.index-es-slot.is c.if-holds.ensures),
 )
 

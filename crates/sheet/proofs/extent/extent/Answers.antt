@@ -3,11 +3,11 @@ use Rattle.sheet.specs.Sheets.{span, sheet_lines}
 use Rattle.sheet.proofs.Extents.{sheet_span, lines_few}
 use Rattle.sheet.proofs.extent.extent.Goals as goal
 
-pub overflow-add-lines : goal.overflow-add-lines
-overflow-add-lines c =
+pub overflow_add-lines : goal.overflow_add-lines
+overflow_add-lines c =
     let bytes = c.args.bytes.now in
-    record { fits = omega (arith, c.well-formed, sheet_span bytes, lines_few (sheet_lines bytes), c.loop-line.invariant.2, ap length c.in-Some.ensures.steps) }
+    record { fits = omega (arith, c.well_formed, sheet_span bytes, lines_few (sheet_lines bytes), c.loop-line.invariant.2, ap length c.in-Some.ensures.steps) }
 
-pub overflow-add-taken-in-loop-line : goal.overflow-add-taken-in-loop-line
-overflow-add-taken-in-loop-line c =
-    record { fits = omega (arith, c.well-formed, sheet_span c.args.bytes.now, c.loop-line.invariant.3, ap span c.in-Some.ensures.steps) }
+pub overflow_add-taken-in-loop-line : goal.overflow_add-taken-in-loop-line
+overflow_add-taken-in-loop-line c =
+    record { fits = omega (arith, c.well_formed, sheet_span c.args.bytes.now, c.loop-line.invariant.3, ap span c.in-Some.ensures.steps) }

@@ -7,8 +7,8 @@ use Rattle.sheet.proofs.fill.fill.Goals as goal
 pub loop-line-init : goal.loop-line-init
 loop-line-init c =
     let o = c.args.columns in
-    let rest : drop 1 (sheet_lines c.args.bytes.now) ≡ sheet_lines c.into-iter-line-iterator.result.lines.rest.now =
-    ap (λ bytes. drop 1 (sheet_lines bytes)) (sym c.new-lines.ensures) ∙ ap (drop 1) c.in-Some.ensures.steps ∙ ap (λ s. sheet_lines s.lines.rest.now) (sym c.into-iter-line-iterator.ensures.into-iter-gives) in
+    let rest : drop 1 (sheet_lines c.args.bytes.now) ≡ sheet_lines c.into_iter-line-iterator.result.lines.rest.now =
+    ap (λ bytes. drop 1 (sheet_lines bytes)) (sym c.new-lines.ensures) ∙ ap (drop 1) c.in-Some.ensures.steps ∙ ap (λ s. sheet_lines s.lines.rest.now) (sym c.into_iter-line-iterator.ensures.into_iter_gives) in
     (tt, tt, subst (Filling _ _ _ _) (ap (readable o) rest) (none_yet _ _))
 
 pub loop-line-preserved-then-at-table : goal.loop-line-preserved-then-at-table

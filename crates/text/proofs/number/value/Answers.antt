@@ -5,8 +5,8 @@ use Rattle.text.specs.Numbers.{value_after}
 use Rattle.text.proofs.Digits.{digits_more, digit_range, one_digit_more}
 use Rattle.text.proofs.number.value.Goals as goal
 
-pub overflow-sub-digit : goal.overflow-sub-digit
-overflow-sub-digit c =
+pub overflow_sub-digit : goal.overflow_sub-digit
+overflow_sub-digit c =
     let more = digits_more c.args.digits.now c.loop-digit.digit-index c.loop-digit-test.true in
     (digit_range _ (and_parts _ _ (sym more ∙ c.loop-digit.invariant.2)).0).0
 

@@ -5,8 +5,8 @@ use Rattle.roads.specs.Tables.{tables_of, SameNames}
 use Rattle.roads.specs.declared.roads.Roads.{Roads}
 use Rattle.roads.proofs.roads.Roads.fill.Goals as goal
 
-pub invariant-of-self : goal.invariant-of-self
-invariant-of-self c =
+pub invariant_of-self : goal.invariant_of-self
+invariant_of-self c =
     let n = c.args.places in
     let arcs = c.args.arcs.now in
     let e = c.replace-own.ensures.value in

@@ -9,7 +9,7 @@ pub returns-in-Some : goal.returns-in-Some
 returns-in-Some c = unlawful c.in-Some.arc (c.if-not-fits.ensures.yes refl) c.in-Some.ensures
 
 pub returns-then-not-within : goal.returns-then-not-within
-returns-then-not-within c = outside (c.if-not-fits.ensures.yes refl) c.in-default.ensures (c.if-not-within.ensures.no refl)
+returns-then-not-within c = outside (c.if-not-fits.ensures.yes refl) c.in_default.ensures (c.if-not-within.ensures.no refl)
 
-pub returns-in-Some-first-steep : goal.returns-in-Some-first-steep
-returns-in-Some-first-steep c = steep c.in-Some-first-steep.arc (c.if-not-fits.ensures.yes refl) c.in-default.ensures (c.if-not-within.ensures.yes refl) c.in-Some-first-steep.ensures
+pub returns-in-Some-first_steep : goal.returns-in-Some-first_steep
+returns-in-Some-first_steep c = steep c.in-Some-first_steep.arc (c.if-not-fits.ensures.yes refl) c.in_default.ensures (c.if-not-within.ensures.yes refl) c.in-Some-first_steep.ensures

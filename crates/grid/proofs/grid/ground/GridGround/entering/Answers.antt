@@ -5,7 +5,7 @@ use Rattle.ground.proofs.Offered.{offered, walk_here, walk_past, walk_on, walk_o
 use Rattle.ground.specs.Questions.{arcs_into}
 use Rattle.grid.proofs.Entering.{entering_are}
 use Rattle.grid.proofs.grid.ground.GridGround.entering.Goals as goal
-use Rattle.grid.proofs.grid.ground.GridGround.entering.Goals.{in-Some+else-left-eq0, in-default}
+use Rattle.grid.proofs.grid.ground.GridGround.entering.Goals.{in-Some+else-left-eq0, in_default}
 use Rattle.grid.specs.Entries.{entering}
 use Rattle.grid.specs.GridLaws.{gridded_lawful}
 use Rattle.grid.specs.Grids.{gridded}
@@ -27,16 +27,16 @@ returns-then-left-eq0 c =
     let g = c.args.self.now in
     let t = entering g.rows g.columns c.args.place in
     let i = c.loop-i.i in
-    sym (walked g c.args.place c.args.k (omega arith) ∙ c.loop-i.invariant ∙ ap (slice_get (offered t i (16 - i))) c.if-left-eq0.true ∙ walk_here t 16 i c.in-Some.arc c.loop-i-test.true (sym c.entered-by.ensures ∙ c.in-Some.is))
+    sym (walked g c.args.place c.args.k (omega arith) ∙ c.loop-i.invariant ∙ ap (slice_get (offered t i (16 - i))) c.if-left-eq0.true ∙ walk_here t 16 i c.in-Some.arc c.loop-i-test.true (sym c.entered_by.ensures ∙ c.in-Some.is))
 
 pub loop-i-preserved : goal.loop-i-preserved
 loop-i-preserved c =
     let g = c.args.self.now in
     let t = entering g.rows g.columns c.args.place in
     let i = c.loop-i.i in
-    c.loop-i.invariant ∙ elim c.match-entered-by.branch [
-      | in-Some+else-left-eq0 w ↦ walk_past t 16 i w.in-Some.arc c.loop-i.left c.loop-i-test.true (sym c.entered-by.ensures ∙ w.in-Some.is) (omega (arith, w.if-left-eq0.false)) ∙ ap (slice_get (offered t (i + 1) (16 - (i + 1)))) (sym w.left-is)
-      | in-default w ↦ walk_on t 16 i c.loop-i.left c.loop-i-test.true (sym c.entered-by.ensures ∙ w.in-default.is) ∙ ap (slice_get (offered t (i + 1) (16 - (i + 1)))) (sym w.left-is)
+    c.loop-i.invariant ∙ elim c.match-entered_by.branch [
+      | in-Some+else-left-eq0 w ↦ walk_past t 16 i w.in-Some.arc c.loop-i.left c.loop-i-test.true (sym c.entered_by.ensures ∙ w.in-Some.is) (omega (arith, w.if-left-eq0.false)) ∙ ap (slice_get (offered t (i + 1) (16 - (i + 1)))) (sym w.left-is)
+      | in_default w ↦ walk_on t 16 i c.loop-i.left c.loop-i-test.true (sym c.entered_by.ensures ∙ w.in_default.is) ∙ ap (slice_get (offered t (i + 1) (16 - (i + 1)))) (sym w.left-is)
     ]
 
 pub returns : goal.returns

@@ -9,7 +9,7 @@ use Rattle.grid.proofs.grid.ground.GridGround.leaving.Goals as goal
 
 pub returns-then-k-lt8 : goal.returns-then-k-lt8
 returns-then-k-lt8 c =
-    ap Some c.arc-from.ensures
+    ap Some c.arc_from.ensures
     ∙ sym (leaving_at (c.args.self.now.rows * c.args.self.now.columns) c.args.place (omega arith) c.args.k (omega arith))
 
 pub returns-else-place-places : goal.returns-else-place-places
@@ -20,5 +20,5 @@ returns-else-place-places c =
       | inr h ↦ sym (ap (λ xs. slice_get xs c.args.k) (arcs_at-beyond (λ j. j / 8) (8 * n) n c.args.place (λ j l. omega arith) (omega arith)))
     ]
 
-pub arc-from-requires : goal.arc-from-requires
-arc-from-requires c = (omega (arith, few_cells c.args.self.now), c.if-k-lt8.true)
+pub arc_from-requires : goal.arc_from-requires
+arc_from-requires c = (omega (arith, few_cells c.args.self.now), c.if-k-lt8.true)

@@ -7,11 +7,11 @@ use Rattle.pickup.proofs.pickup.layer.PickupGround.entering_count.Goals as goal
 use Rattle.pickup.specs.LayerLaws.{layered_lawful}
 use Rattle.pickup.specs.Layers.{layered}
 
-pub overflow-add-result : goal.overflow-add-result
-overflow-add-result g c =
+pub overflow_add-result : goal.overflow_add-result
+overflow_add-result g c =
     let b = g.G.Ground.meaning c.args.self.now.below.now in
     let l = g.G.Ground.lawful c.args.self.now.below.now in
-    omega (arith, l.few_arcs, arcs_at-few b.head b.arcs c.in-Some.side.place, c.entering-count.ensures, c.from.ensures, (byte_is c.ends-at.result).1)
+    omega (arith, l.few_arcs, arcs_at-few b.head b.arcs c.in-Some.side.place, c.entering_count.ensures, c.from.ensures, (byte_is c.ends_at.result).1)
 
 pub returns-in-Some : goal.returns-in-Some
 returns-in-Some g c =
@@ -20,7 +20,7 @@ returns-in-Some g c =
     let s = c.in-Some.side in
     let o = c.in-Some.ensures in
     let whole = ap length (layer_into b c.args.self.now.at l c.args.place s.place s.first o.0 o.1 o.2) ∙ length_more (λ j. s.first + j) (arcs_into b s.place) _ (2 * b.arcs) in
-    omega (arith, whole, c.entering-count.ensures, c.from.ensures ∙ ap bool_byte c.ends-at.ensures ∙ (byte_is _).0)
+    omega (arith, whole, c.entering_count.ensures, c.from.ensures ∙ ap bool_byte c.ends_at.ensures ∙ (byte_is _).0)
 
 pub returns-in-None : goal.returns-in-None
 returns-in-None g c =

@@ -6,10 +6,10 @@ pub raised-requires : goal.raised-requires
 raised-requires g c =
     let b = g.G.Ground.meaning c.args.self.now.below.now in
     let l = g.G.Ground.lawful c.args.self.now.below.now in
-    end_few b l b.head l.head-in c.in-After.copy c.in-ok-head.field-0 (sym c.head-in-After.ensures ∙ c.in-ok-head.was)
+    end_few b l b.head l.head-in c.in-After.copy c.in_ok-head.field-0 (sym c.head-in-After.ensures ∙ c.in_ok-head.was)
 
 pub raised-requires-in-Crossing : goal.raised-requires-in-Crossing
 raised-requires-in-Crossing g c =
     let b = g.G.Ground.meaning c.args.self.now.below.now in
     let l = g.G.Ground.lawful c.args.self.now.below.now in
-    omega (arith, l.few_places, crossing_in b c.args.self.now.at c.args.arc (sym c.part.ensures ∙ c.in-ok-copy.was ∙ ap Some c.in-Crossing.is))
+    omega (arith, l.few_places, crossing_in b c.args.self.now.at c.args.arc (sym c.part.ensures ∙ c.in_ok-copy.was ∙ ap Some c.in-Crossing.is))

@@ -7,30 +7,30 @@ use Rattle.pickup.proofs.pickup.layer.PickupGround.leaving.Goals as goal
 use Rattle.pickup.specs.LayerLaws.{layered_lawful}
 use Rattle.pickup.specs.Layers.{layered}
 
-pub returns-in-err-side : goal.returns-in-err-side
-returns-in-err-side g c =
+pub returns-in_err-side : goal.returns-in_err-side
+returns-in_err-side g c =
     let b = g.G.Ground.meaning c.args.self.now.below.now in
     let m = layered b c.args.self.now.at in
     let l = layered_lawful b c.args.self.now.at (g.G.Ground.lawful c.args.self.now.below.now) in
-    c.from-residual.ensures ∙ sym (ap (λ xs. slice_get xs c.args.k) (arcs_at-beyond m.tail m.arcs m.places c.args.place l.tail_in c.in-err-side.ensures))
+    c.from_residual.ensures ∙ sym (ap (λ xs. slice_get xs c.args.k) (arcs_at-beyond m.tail m.arcs m.places c.args.place l.tail_in c.in_err-side.ensures))
 
-pub copy-of-requires : goal.copy-of-requires
-copy-of-requires g c =
+pub copy_of-requires : goal.copy_of-requires
+copy_of-requires g c =
     let b = g.G.Ground.meaning c.args.self.now.below.now in
     let l = g.G.Ground.lawful c.args.self.now.below.now in
-    let s = c.in-ok-side.side in
+    let s = c.in_ok-side.side in
     let few = l.few_arcs in
     let under = arcs_at-at b.tail b.arcs s.place c.args.k c.in-Some.arc (sym c.leaving.ensures ∙ c.in-Some.is) in
-    let low = first_few b c.args.place s.first c.in-ok-side.ensures.2 in
+    let low = first_few b c.args.place s.first c.in_ok-side.ensures.2 in
     (omega arith, omega arith)
 
 pub returns-in-Some : goal.returns-in-Some
 returns-in-Some g c =
     let b = g.G.Ground.meaning c.args.self.now.below.now in
     let l = g.G.Ground.lawful c.args.self.now.below.now in
-    let s = c.in-ok-side.side in
-    let o = c.in-ok-side.ensures in
-    ap Some c.copy-of.ensures
+    let s = c.in_ok-side.side in
+    let o = c.in_ok-side.ensures in
+    ap Some c.copy_of.ensures
     ∙ sym (ap (λ xs. slice_get xs c.args.k) (layer_from b c.args.self.now.at l c.args.place s.place s.first o.0 o.1 o.2)
     ∙ nth_copy (λ j. s.first + j) (arcs_from b s.place) _ (2 * b.arcs) c.args.k c.in-Some.arc (sym c.leaving.ensures ∙ c.in-Some.is))
 
@@ -38,9 +38,9 @@ pub returns-in-None : goal.returns-in-None
 returns-in-None g c =
     let b = g.G.Ground.meaning c.args.self.now.below.now in
     let l = g.G.Ground.lawful c.args.self.now.below.now in
-    let s = c.in-ok-side.side in
-    let o = c.in-ok-side.ensures in
+    let s = c.in_ok-side.side in
+    let o = c.in_ok-side.ensures in
     c.crossing.ensures
-    ∙ ap₂ (λ here n. known (here && eqb c.args.k n) (2 * b.arcs)) c.starts-at.ensures c.leaving-count.ensures
+    ∙ ap₂ (λ here n. known (here && eqb c.args.k n) (2 * b.arcs)) c.starts_at.ensures c.leaving_count.ensures
     ∙ sym (ap (λ xs. slice_get xs c.args.k) (layer_from b c.args.self.now.at l c.args.place s.place s.first o.0 o.1 o.2)
     ∙ nth_extra (λ j. s.first + j) (arcs_from b s.place) _ (2 * b.arcs) c.args.k (sym c.leaving.ensures ∙ c.in-None.is))
