@@ -20,7 +20,7 @@ returns-then-place-places c =
     let g = c.args.self.now in
     let m = gridded g.rows g.columns g.base in
     let l = gridded_lawful g.rows g.columns g.base g.some_rows g.few_rows g.some_columns g.few_columns g.low_base g.high_base in
-    sym (ap (λ xs. slice_get xs c.args.k) (arcs_at-beyond m.head m.arcs m.places c.args.place l.head-in (omega arith)))
+    sym (ap (λ xs. slice_get xs c.args.k) (arcs_at-beyond m.head m.arcs m.places c.args.place l.head_in (omega arith)))
 
 pub returns-then-left-eq0 : goal.returns-then-left-eq0
 returns-then-left-eq0 c =

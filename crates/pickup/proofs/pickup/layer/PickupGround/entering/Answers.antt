@@ -12,7 +12,7 @@ returns-in_err-side g c =
     let b = g.G.Ground.meaning c.args.self.now.below.now in
     let m = layered b c.args.self.now.at in
     let l = layered_lawful b c.args.self.now.at (g.G.Ground.lawful c.args.self.now.below.now) in
-    c.from_residual.ensures ∙ sym (ap (λ xs. slice_get xs c.args.k) (arcs_at-beyond m.head m.arcs m.places c.args.place l.head-in c.in_err-side.ensures))
+    c.from_residual.ensures ∙ sym (ap (λ xs. slice_get xs c.args.k) (arcs_at-beyond m.head m.arcs m.places c.args.place l.head_in c.in_err-side.ensures))
 
 pub copy_of-requires : goal.copy_of-requires
 copy_of-requires g c =

@@ -27,4 +27,4 @@ returns-in-None g c =
     let b = g.G.Ground.meaning c.args.self.now.below.now in
     let m = layered b c.args.self.now.at in
     let l = layered_lawful b c.args.self.now.at (g.G.Ground.lawful c.args.self.now.below.now) in
-    sym (ap length (arcs_at-beyond m.head m.arcs m.places c.args.place l.head-in c.in-None.ensures))
+    sym (ap length (arcs_at-beyond m.head m.arcs m.places c.args.place l.head_in c.in-None.ensures))
