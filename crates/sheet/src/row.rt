@@ -9,6 +9,7 @@ use text::fields::Fields;
 use text::number::number;
 
 // The arc that a line of values names, or what is wrong with the line.
+#[tactic(auto, unfolding(crate::specs::Sheets::row_of))]
 pub fn row(columns: Columns, line: &[u8]) -> Result<Arc, LineFault>
     ensures { result ≡ row_of columns line.now }
 {

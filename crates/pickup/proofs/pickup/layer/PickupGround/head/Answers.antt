@@ -6,7 +6,7 @@ pub raised-requires : goal.raised-requires
 raised-requires g c =
     let b = g.G.Ground.meaning c.args.self.now.below.now in
     let l = g.G.Ground.lawful c.args.self.now.below.now in
-    end_few b l b.head l.head_in c.in-After.copy c.in_ok-head.field-0 (sym c.head_in-After.ensures ∙ c.in_ok-head.was)
+    end_few b l b.head l.head_in c.in-After.copy c.in_ok-head-in-After.field-0 (sym c.head-in-After.ensures ∙ c.in_ok-head-in-After.was)
 
 pub raised-requires-in-Crossing : goal.raised-requires-in-Crossing
 raised-requires-in-Crossing g c =
