@@ -16,11 +16,11 @@ returns-in-32 c =
 pub returns-in_default : goal.returns-in_default
 returns-in_default c = reads_none c.args.line.now c.args.list.now (λ h e. omega (arith, ltb-true)) (λ h e. omega (arith, ltb-true))
 
-pub returns-in_default·2 : goal.returns-in_default·2
-returns-in_default·2 c = reads_none c.args.line.now c.args.list.now (λ h e. omega arith) (λ h e. omega (arith, ltb-true))
+pub returns-in_default-2 : goal.returns-in_default-2
+returns-in_default-2 c = reads_none c.args.line.now c.args.list.now (λ h e. omega arith) (λ h e. omega (arith, ltb-true))
 
-pub returns-in_default·3 : goal.returns-in_default·3
-returns-in_default·3 c = reads_none c.args.line.now c.args.list.now (λ h e. omega (arith, ltb-false)) (λ h e. omega arith)
+pub returns-in_default-3 : goal.returns-in_default-3
+returns-in_default-3 c = reads_none c.args.line.now c.args.list.now (λ h e. omega (arith, ltb-false)) (λ h e. omega arith)
 
-pub returns-in_default·4 : goal.returns-in_default·4
-returns-in_default·4 c = reads_none c.args.line.now c.args.list.now (λ h e. omega (arith, ltb-false)) (λ h e. omega arith)
+pub returns-in_default-4 : goal.returns-in_default-4
+returns-in_default-4 c = reads_none c.args.line.now c.args.list.now (λ h e. omega (arith, ltb-false)) (λ h e. omega arith)

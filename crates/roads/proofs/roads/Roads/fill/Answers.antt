@@ -13,31 +13,26 @@ invariant_of-self c =
     let acc = subst (λ (r : Roads). Accepted n arcs c.args.heights.now (tables_of r)) (sym e) c.requires in
     let copied = c.copy.ensures.copied in
     let out = c.index.ensures.done (record { places = acc.fits.leaving; room = acc.fits.leavers; few = omega (arith, acc.within.few_arcs); lawful = acc.lawful }) in
-    let into = c.index-2.ensures.done (record { places = acc.fits.entering; room = acc.fits.enterers; few = omega (arith, acc.within.few_arcs); lawful = acc.lawful }) in (
-      c.requires.within.few_places,
-      (
-        c.requires.within.few_arcs,
-        (
-          λ j h. (c.requires.lawful j h).tail_in,
-          (
-            λ j h. (c.requires.lawful j h).head_in,
-            (
-              λ j h. (c.requires.lawful j h).least_low,
-              (
-                λ j h. (c.requires.lawful j h).least_high,
-                (
-                  λ p h. omega (arith, copied p h, c.requires.within.low p h),
-                  (
-                    λ j h. omega (arith, copied (arc_at arcs j).head (c.requires.lawful j h).head_in, copied (arc_at arcs j).tail (c.requires.lawful j h).tail_in, c.requires.steps j h),
-                    (omega (arith, acc.fits.kept, c.copy.auto.to), (out.places, (out.arcs, (into.places, (into.arcs, (out.ends_right, (out.order_right, (into.ends_right, (into.order_right, tt))))))))),
-                  ),
-                ),
-              ),
-            ),
-          ),
-        ),
-      ),
-    )
+    let into = c.index-2.ensures.done (record { places = acc.fits.entering; room = acc.fits.enterers; few = omega (arith, acc.within.few_arcs); lawful = acc.lawful }) in
+    record {
+      few_places = c.requires.within.few_places;
+      few_arcs = c.requires.within.few_arcs;
+      tails_in = λ j h. (c.requires.lawful j h).tail_in;
+      heads_in = λ j h. (c.requires.lawful j h).head_in;
+      leasts_low = λ j h. (c.requires.lawful j h).least_low;
+      leasts_high = λ j h. (c.requires.lawful j h).least_high;
+      low_heights = λ p h. omega (arith, copied p h, c.requires.within.low p h);
+      steps = λ j h. omega (arith, copied (arc_at arcs j).head (c.requires.lawful j h).head_in, copied (arc_at arcs j).tail (c.requires.lawful j h).tail_in, c.requires.steps j h);
+      heights_fit = omega (arith, acc.fits.kept, c.copy.auto.to);
+      leaving_fits = out.places;
+      leavers_fit = out.arcs;
+      entering_fits = into.places;
+      enterers_fit = into.arcs;
+      leaving_right = out.ends_right;
+      leavers_right = out.order_right;
+      entering_right = into.ends_right;
+      enterers_right = into.order_right;
+    }
 
 pub returns : goal.returns
 returns c =
