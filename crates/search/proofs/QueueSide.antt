@@ -42,10 +42,10 @@ synced_low m aim upto places es fits s n k e = elim (cases_lt n upto) [
 
 module _ (m : Meaning) (aim : Aim) (p : ℕ) (place : Place) (places : List Place) (es es' : List (Entry Key)) (fits : p < length places) (k : Kept p (wanted_for m aim p place) es es') where
   other : (q : ℕ) → (q ≡ p → ⊥) → key_of es' q ≡ key_of es q
-  other q ne = k.content q ∙ update_other eqb (key_of es) p (wanted_for m aim p place) q (ne_eqb q p ne)
+  other q ne = k.content q ∙ update_other eqb (key_of es) p (wanted_for m aim p place) q (ne_eqb p q (λ i. ne (sym i)))
 
   written : (q : ℕ) → q ≡ p → key_of es' q ≡ wanted_for m aim q (place_at (set places p place) q)
-  written q e = k.content q ∙ update_same eqb (key_of es) p (wanted_for m aim p place) q (eq-eqb q p e) ∙ sym (ap (λ z. wanted_for m aim z (place_at (set places p place) z)) e ∙ ap (wanted_for m aim p) (get_or-set_same places p place nowhere fits))
+  written q e = k.content q ∙ update_same eqb (key_of es) p (wanted_for m aim p place) q (eq-eqb p q (sym e)) ∙ sym (ap (λ z. wanted_for m aim z (place_at (set places p place) z)) e ∙ ap (wanted_for m aim p) (get_or-set_same places p place nowhere fits))
 
   unwritten : (q : ℕ) → (q ≡ p → ⊥) → key_of es q ≡ wanted_for m aim q (place_at places q) → key_of es' q ≡ wanted_for m aim q (place_at (set places p place) q)
   unwritten q ne was = other q ne ∙ was ∙ ap (wanted_for m aim q) (sym (get_or-set_other places p q place nowhere ne))

@@ -19,7 +19,7 @@ pub changed_same : {K : Type 0} (es es' : List (Entry K)) (n : ℕ) (o : Option 
 changed_same es es' n o c = c n ∙ update_same eqb (key_of es) n o n (eq-eqb n n refl)
 
 pub changed_other : {K : Type 0} (es es' : List (Entry K)) (n : ℕ) (o : Option K) → Changed n o es es' → (m : ℕ) → (m ≡ n → ⊥) → key_of es' m ≡ key_of es m
-changed_other es es' n o c m ne = c m ∙ update_other eqb (key_of es) n o m (ne_eqb m n ne)
+changed_other es es' n o c m ne = c m ∙ update_other eqb (key_of es) n o m (ne_eqb n m (λ i. ne (sym i)))
 
 -- how many are reached once one more sum, or a lower one, is written
 pub reached_new : (sums : List ℕ) (i v : ℕ) → i < length sums → far ≤ get_or sums i 0 → v < far → reached (set sums i v) ≡ reached sums + 1

@@ -10,11 +10,11 @@ use Rattle.search.proofs.Walking.{best_first, best_taken, best_kept}
 use Rattle.search.proofs.offer.cheapest_arc.Goals as goal
 use Rattle.search.proofs.offer.cheapest_arc.Goals.{then-way-least, else-way-least}
 
-pub returns-in-default : goal.returns-in-default
-returns-in-default g c =
+pub returns-in_default : goal.returns-in_default
+returns-in_default g c =
     let m = g.G.Ground.meaning c.args.ground.now in
     let f = offered m c.args.costs.now c.args.places.now in
-    sym (ap (cheapest f) (drop_past (arcs_from m c.args.p) 0 (sym c.in-default.ensures)))
+    sym (ap (cheapest f) (drop_past (arcs_from m c.args.p) 0 (sym c.in_default.ensures)))
 
 pub offer-least-requires : goal.offer-least-requires
 offer-least-requires g c =
@@ -32,8 +32,8 @@ offer-way-requires g c =
     let m = g.G.Ground.meaning c.args.ground.now in
     record { sized = c.requires.sized; there = (arcs_at-at m.tail m.arcs c.args.p c.loop-arc.k c.in-Some-leaving.arc (sym c.in-Some-leaving.ensures)).0 }
 
-pub overflow-add-k : goal.overflow-add-k
-overflow-add-k g c =
+pub overflow_add-k : goal.overflow_add-k
+overflow_add-k g c =
     let m = g.G.Ground.meaning c.args.ground.now in
     let few = (g.G.Ground.lawful c.args.ground.now).few_arcs in
     let d = drop_at (arcs_from m c.args.p) c.loop-arc.k c.in-Some-leaving.arc (sym c.in-Some-leaving.ensures) in
@@ -72,5 +72,5 @@ returns g c =
     let m = g.G.Ground.meaning c.args.ground.now in
     let f = offered m c.args.costs.now c.args.places.now in
     let xs = arcs_from m c.args.p in
-    let past = drop_past xs c.loop-arc.k (sym c.in-default-leaving.ensures) in
+    let past = drop_past xs c.loop-arc.k (sym c.in_default-leaving.ensures) in
     sym (ap (λ ys. better (λ i j. ltb (f i) (f j)) c.loop-arc.best (cheapest f ys)) past) ∙ c.loop-arc.invariant.0

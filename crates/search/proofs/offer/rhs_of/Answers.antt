@@ -14,4 +14,4 @@ pub returns-else-p-aim : goal.returns-else-p-aim
 returns-else-p-aim g c =
     let m = g.G.Ground.meaning c.args.ground.now in
     let s = told c.args.aim c.args.costs.now c.args.places.now in
-    c.smallest-offer.ensures ∙ sym (away m s c.args.p c.if-p-aim.false)
+    c.smallest_offer.ensures ∙ sym (away m s c.args.p c.if-p-aim.false)

@@ -18,8 +18,8 @@ offer-requires g c =
     let m = g.G.Ground.meaning c.args.ground.now in
     record { sized = c.requires.sized; there = (arcs_at-at m.tail m.arcs c.args.p c.loop-arc.k c.in-Some.arc (sym c.in-Some.ensures)).0 }
 
-pub overflow-add-k : goal.overflow-add-k
-overflow-add-k g c =
+pub overflow_add-k : goal.overflow_add-k
+overflow_add-k g c =
     let m = g.G.Ground.meaning c.args.ground.now in
     let few = (g.G.Ground.lawful c.args.ground.now).few_arcs in
     let d = drop_at (arcs_from m c.args.p) c.loop-arc.k c.in-Some.arc (sym c.in-Some.ensures) in
@@ -43,5 +43,5 @@ pub returns : goal.returns
 returns g c =
     let m = g.G.Ground.meaning c.args.ground.now in
     let f = offered m c.args.costs.now c.args.places.now in
-    let d = ap (λ xs. smallest (map f xs)) (drop_past (arcs_from m c.args.p) c.loop-arc.k (sym c.in-default.ensures)) in
+    let d = ap (λ xs. smallest (map f xs)) (drop_past (arcs_from m c.args.p) c.loop-arc.k (sym c.in_default.ensures)) in
     omega (arith, d, c.loop-arc.invariant)

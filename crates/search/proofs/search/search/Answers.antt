@@ -25,7 +25,7 @@ returns g c =
           let ready : Ready m aim afresh costs places' es' s =
           elim c.if-afresh.branch [
             | then-afresh w ↦ ready_afresh m law aim costs places places' es' sized.places_fit cached s sh
-                (subst (λ (z : List Place). StartedAfresh m aim places z es') (sym w.places-is) (subst (λ (z : List (Entry Key)). StartedAfresh m aim places w.start-afresh.new.places z) (sym w.entries-is) w.start-afresh.ensures))
+                (subst (λ (z : List Place). StartedAfresh m aim places z es') (sym w.places-is) (subst (λ (z : List (Entry Key)). StartedAfresh m aim places w.start_afresh.new.places z) (sym w.entries-is) w.start_afresh.ensures))
                 afresh w.if-afresh.true
             | else-afresh w ↦ ready_again m law aim costs places places' es' sized.places_fit cached s sh afresh w.if-afresh.false w.places-is
                 (subst (λ (z : List (Entry Key)). Synced m aim m.places places z) (sym w.entries-is) (synced w.if-afresh.false))

@@ -6,12 +6,6 @@ use Rattle.search.proofs.Lowering.{lowered_by}
 use Rattle.search.proofs.Writing.{all_synced}
 use Rattle.search.proofs.turn.lower.Goals as goal
 
-pub slice-copy-out·place : goal.slice-copy-out·place
-slice-copy-out·place g c =
-    let m = g.G.Ground.meaning c.args.ground.now in
-    let t = tail_is m (g.G.Ground.lawful c.args.ground.now) c.args.arc c.requires.there c.in-Some.tail c.in-Some.ensures in
-    omega (arith, c.requires.sized.places_fit)
-
 pub store-requires : goal.store-requires
 store-requires g c =
     let m = g.G.Ground.meaning c.args.ground.now in
@@ -22,7 +16,7 @@ pub returns-then-rhs-place : goal.returns-then-rhs-place
 returns-then-rhs-place g c =
     let m = g.G.Ground.meaning c.args.ground.now in
     let t = tail_is m (g.G.Ground.lawful c.args.ground.now) c.args.arc c.requires.there c.in-Some.tail c.in-Some.ensures in
-    let way : c.capped-sum-rhs.result ≡ get_or c.args.costs.now c.args.arc 0 ⊕ c.args.value = c.capped-sum-rhs.ensures in
+    let way : c.capped_sum-rhs.result ≡ get_or c.args.costs.now c.args.arc 0 ⊕ c.args.value = c.capped_sum-rhs.ensures in
     let within : c.in-Some.tail < length c.args.places.now = omega (arith, c.requires.sized.places_fit) in
     record {
       lowered = lowered_by m c.args.aim c.args.costs.now c.args.arc c.args.value c.args.places.now c.store.new.places c.in-Some.tail t.0 within c.if-tail-aim.true (omega (arith, c.if-rhs-place.true)) (c.store.ensures.written ∙ ap (λ x. set c.args.places.now c.in-Some.tail (with_rhs (place_at c.args.places.now c.in-Some.tail) x)) way);

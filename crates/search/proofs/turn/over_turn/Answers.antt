@@ -29,8 +29,8 @@ lower-requires g c =
       there = (arcs_at-at m.head m.arcs c.args.p c.loop-arc.k c.in-Some.arc is).0;
     }
 
-pub overflow-add-k : goal.overflow-add-k
-overflow-add-k g c =
+pub overflow_add-k : goal.overflow_add-k
+overflow_add-k g c =
     let m : Meaning = g.G.Ground.meaning c.args.ground.now in
     let few = (g.G.Ground.lawful c.args.ground.now).few_arcs in
     let is : slice_get (arcs_into m c.args.p) c.loop-arc.k ≡ Some c.in-Some.arc = sym c.in-Some.ensures in
@@ -56,7 +56,7 @@ pub returns : goal.returns
 returns g c =
     let m : Meaning = g.G.Ground.meaning c.args.ground.now in
     let before = c.args.places.now in
-    let none : slice_get (arcs_into m c.args.p) c.loop-arc.k ≡ None = sym c.in-default.ensures in
+    let none : slice_get (arcs_into m c.args.p) c.loop-arc.k ≡ None = sym c.in_default.ensures in
     let b = begun before c.store.new.places c.args.p (record { g = (place_at before c.args.p).rhs; rhs = (place_at before c.args.p).rhs; closed = true }) (omega (arith, c.requires.sized.places_fit, c.requires.there)) c.store.ensures.written refl in
     let first : StaysSynced m c.args.aim before c.args.entries.now c.store.new.places c.store.new.entries = all_synced m c.args.aim (length before) before c.args.entries.now c.store.new.places c.store.new.entries c.requires.sized.places_fit c.store.ensures.synced in
     record {

@@ -2,12 +2,6 @@ use Rattle.std.proofs.Common.{arith}
 use Rattle.search.proofs.Asking.{tail_is}
 use Rattle.search.proofs.turn.raise.Goals as goal
 
-pub slice-copy-out·place : goal.slice-copy-out·place
-slice-copy-out·place g c =
-    let m = g.G.Ground.meaning c.args.ground.now in
-    let t = tail_is m (g.G.Ground.lawful c.args.ground.now) c.args.arc c.requires.there c.in-Some.tail c.in-Some.ensures in
-    omega (arith, c.requires.sized.places_fit)
-
 pub store-requires : goal.store-requires
 store-requires g c =
     let m = g.G.Ground.meaning c.args.ground.now in

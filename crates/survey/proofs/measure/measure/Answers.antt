@@ -11,12 +11,12 @@ returns c =
     let arcs = c.args.arcs.now in
     let sums = c.spread.new.sums in
     let heights = c.args.heights.now in
-    let heights' = c.hand-over-answer.new.heights in
+    let heights' = c.hand_over-answer.new.heights in
     let size : length sums ≡ n = omega (arith, c.spread.auto.sums) in
-    let over = c.hand-over-answer.ensures in
+    let over = c.hand_over-answer.ensures in
     let Over : Result (Unit {0}) Refusal → Type 0 = λ r. HandedOver sums heights heights' r in
     record {
-      answer = measured c.args.from n arcs sums heights heights' c.spread.ensures size c.hand-over-answer.result over;
+      answer = measured c.args.from n arcs sums heights heights' c.spread.ensures size c.hand_over-answer.result over;
       low = λ e. measured_low c.args.from n arcs sums heights heights' c.spread.ensures size (subst Over e over);
       steps = λ e. measured_steps c.args.from n arcs sums heights heights' c.spread.ensures size c.requires.lawful (subst Over e over);
       ends = λ k h. search rules;

@@ -22,8 +22,8 @@ relax-requires c =
       fits = omega (arith, c.requires.fits, c.loop-j.invariant.0 c.args.place, ap (λ p. get_or c.loop-j.sums p 0) w.1);
     }
 
-pub overflow-add-k : goal.overflow-add-k
-overflow-add-k c =
+pub overflow_add-k : goal.overflow_add-k
+overflow_add-k c =
     let end = end_at Tail c.args.arcs.now in
     let m = length c.args.arcs.now in
     let d = drop_at (arcs_at end m c.args.place) c.loop-j.k c.in-Some.j (sym (c.in-Some.ensures end m c.requires.indexed)) in
@@ -66,7 +66,7 @@ returns c from l near =
     let m = length arcs in
     let here = arcs_at end m c.args.place in
     let o = c.loop-j.invariant.1 from l near in
-    let d = drop_past here c.loop-j.k (sym (c.in-default.ensures end m c.requires.indexed)) in
+    let d = drop_past here c.loop-j.k (sym (c.in_default.ensures end m c.requires.indexed)) in
     record {
       labelled = subst (λ (xs : List ℕ). Labelled (flat (length c.args.sums.now) arcs) from xs c.loop-j.sums c.loop-j.queue.entries.now) d o.labelled;
       lighter = o.lighter;

@@ -48,7 +48,7 @@ loop-item-smaller c =
     let out = c.in-Some.ensures in
     let done = out.done l.sound in
     let w = taken_in g c.args.from c.loop-item.sums c.loop-item.queue.entries.now c.in-Some.item.0 c.in-Some.item.1 l done.0 in
-    let up = take_up g c.args.from c.loop-item.sums c.loop-item.queue.entries.now c.take-smallest.new.self.entries.now c.in-Some.item.0 c.in-Some.item.1 l out.size done.0 done.1 in
+    let up = take_up g c.args.from c.loop-item.sums c.loop-item.queue.entries.now c.take_smallest.new.self.entries.now c.in-Some.item.0 c.in-Some.item.1 l out.size done.0 done.1 in
     omega (arith, (c.settle.ensures c.args.from up w.1).lighter, done.1.count)
 
 pub loop-item-preserved : goal.loop-item-preserved
@@ -59,7 +59,7 @@ loop-item-preserved c =
     let out = c.in-Some.ensures in
     let done = out.done l.sound in
     let w = taken_in g c.args.from c.loop-item.sums c.loop-item.queue.entries.now c.in-Some.item.0 c.in-Some.item.1 l done.0 in
-    let up = take_up g c.args.from c.loop-item.sums c.loop-item.queue.entries.now c.take-smallest.new.self.entries.now c.in-Some.item.0 c.in-Some.item.1 l out.size done.0 done.1 in
+    let up = take_up g c.args.from c.loop-item.sums c.loop-item.queue.entries.now c.take_smallest.new.self.entries.now c.in-Some.item.0 c.in-Some.item.1 l out.size done.0 done.1 in
     let e : length c.loop-item.sums ≡ length c.settle.new.sums = omega (arith, c.settle.auto.sums) in
     subst (λ (z : ℕ). Labelled (flat z arcs) c.args.from [] c.settle.new.sums c.settle.new.queue.entries.now) e (c.settle.ensures c.args.from up w.1).labelled
 
@@ -68,6 +68,6 @@ returns c =
     let arcs = c.args.arcs.now in
     let l = c.loop-item.invariant in
     let e : length c.loop-item.sums ≡ length c.args.sums.now = omega (arith, c.loop-item.auto.sums, c.fill.ensures.len, length-set c.fill.new.self c.args.from 0) in
-    let empty = c.in-default.ensures.done.1 l.sound in
+    let empty = c.in_default.ensures.done.1 l.sound in
     subst (λ (z : ℕ). Surveyed (flat z arcs) c.args.from c.loop-item.sums) e
     (all_least (flat (length c.loop-item.sums) arcs) c.args.from c.loop-item.sums c.loop-item.queue.entries.now (omega (arith, e, c.requires.few)) (λ j h. omega (arith, e, (c.requires.lawful j h).tail_in)) (λ j h. (c.requires.lawful j h).least_high) (omega (arith, e, c.requires.start)) l empty.content)

@@ -13,5 +13,5 @@ returns-in-Some c = unlawful c.in-Some.arc (omega arith) (c.if-not-fits.ensures.
 
 pub returns-then-places-gt16384 : goal.returns-then-places-gt16384
 returns-then-places-gt16384 c =
-    outside (omega arith) (c.if-not-fits.ensures.yes refl) c.in-default.ensures
+    outside (omega arith) (c.if-not-fits.ensures.yes refl) c.in_default.ensures
     (λ s. elim c.then-places-gt16384.either [ inl h ↦ omega (arith, s.few_places) | inr h ↦ omega (arith, s.few_arcs) ])

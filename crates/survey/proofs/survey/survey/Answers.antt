@@ -22,7 +22,7 @@ pub returns : goal.returns
 returns c =
     let n = c.args.places in
     let arcs = c.args.arcs.now in
-    let ready = c.in-default.ensures in
+    let ready = c.in_default.ensures in
     let f = ready.fits in
     let e = part_size n c.args.sums.now f.sums in
     let m = length arcs in
