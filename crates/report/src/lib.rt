@@ -32,14 +32,16 @@ fn count(out: &mut String, arcs: &[Arc]) -> fmt::Result
 {
     let places = places(arcs);
     let arcs = arcs.len();
-    write!(out, "{places} places, {arcs} arcs\n")
+    write!(out, "{places} places, {arcs} arcs\n")?;
+    Ok(())
 }
 
 fn refuse(out: &mut String, refusal: Refusal) -> fmt::Result
     ensures { OnOk result (string_bytes out.new ≡ string_bytes out.old ++ refusal_text refusal) }
 {
     let number = refusal.number();
-    write!(out, "refused {number}: {refusal}\n")
+    write!(out, "refused {number}: {refusal}\n")?;
+    Ok(())
 }
 
 // The report on the sheet that `bytes` begin with, read by way of `table`. The error is want of memory.

@@ -3,9 +3,9 @@ use Rattle.heights.proofs.Levelling.{low_accepted, measured, refused_zero, zeros
 use Rattle.survey.specs.Surveys.{columns}
 use Rattle.heights.proofs.level.Goals as goal
 
-pub returns-in-default : goal.returns-in-default
-returns-in-default c =
-    let s = c.in-default.ensures in
+pub returns-in_default : goal.returns-in_default
+returns-in_default c =
+    let s = c.in_default.ensures in
     let ready = s.answer.0 in
     let n = c.args.places in
     let arcs = c.args.arcs.now in

@@ -4,13 +4,13 @@ use Rattle.search.specs.Tables.{told}
 use Rattle.plan.proofs.Following.{follow_step, follow_end, follow_none}
 use Rattle.plan.proofs.route.count_arcs.Goals as goal
 
-pub returns-in-default : goal.returns-in-default
-returns-in-default g c =
+pub returns-in_default : goal.returns-in_default
+returns-in_default g c =
     let m = g.G.Ground.meaning c.args.ground.now in
     let n = length c.args.places.now in
     let s = told c.args.aim c.args.costs.now c.args.places.now in
     let e : n ≡ m.places = c.requires.places_fit in
-    omega (arith, c.loop-count.invariant, ap (λ a. length (follow m s a c.args.aim.here)) e, ap length (follow_end m c.args.aim c.args.costs.now c.args.places.now c.loop-count.p (n - c.loop-count.count) (sym c.in-default.ensures.step)))
+    omega (arith, c.loop-count.invariant, ap (λ a. length (follow m s a c.args.aim.here)) e, ap length (follow_end m c.args.aim c.args.costs.now c.args.places.now c.loop-count.p (n - c.loop-count.count) (sym c.in_default.ensures.step)))
 
 pub loop-count-preserved : goal.loop-count-preserved
 loop-count-preserved g c =

@@ -6,27 +6,27 @@ use Rattle.plan.specs.Routes.{step_from, with_head}
 use Rattle.plan.proofs.Following.{best_in}
 use Rattle.plan.proofs.route.step.Goals as goal
 
-pub returns-in-err-arc : goal.returns-in-err-arc
-returns-in-err-arc g c =
+pub returns-in_err-arc : goal.returns-in_err-arc
+returns-in_err-arc g c =
     let m = g.G.Ground.meaning c.args.ground.now in
     record {
-      step = c.from-residual.ensures ∙ sym (cond-false _ _ _ (ne_eqb _ _ c.if-p-landing.false) ∙ ap (with_head m) (sym (c.in-err-arc.ensures.found c.requires)));
-      arc = subst (λ (o : Option (ℕ × ℕ)). IfSome o (λ x. x.0 < m.arcs)) (sym c.from-residual.ensures) tt;
+      step = c.from_residual.ensures ∙ sym (cond-false _ _ _ (ne_eqb _ _ c.if-p-landing.false) ∙ ap (with_head m) (sym (c.in_err-arc.ensures.found c.requires)));
+      arc = subst (λ (o : Option (ℕ × ℕ)). IfSome o (λ x. x.0 < m.arcs)) (sym c.from_residual.ensures) tt;
     }
 
-pub returns-in-err-head : goal.returns-in-err-head
-returns-in-err-head g c =
+pub returns-in_err-head : goal.returns-in_err-head
+returns-in_err-head g c =
     let m = g.G.Ground.meaning c.args.ground.now in
-    let j = c.in-ok-arc.arc in
-    let there = best_in m c.args.costs.now c.args.places.now c.args.p j (sym (c.in-ok-arc.ensures.found c.requires)) in
-    absurd (both_ways (ltb j m.arcs) (known_none (ltb j m.arcs) (m.head j) (sym c.in-err-head.ensures)) (lt-ltb _ _ there))
+    let j = c.in_ok-arc.arc in
+    let there = best_in m c.args.costs.now c.args.places.now c.args.p j (sym (c.in_ok-arc.ensures.found c.requires)) in
+    absurd (both_ways (ltb j m.arcs) (known_none (ltb j m.arcs) (m.head j) (sym c.in_err-head.ensures)) (lt-ltb _ _ there))
 
 pub returns : goal.returns
 returns g c =
     let m = g.G.Ground.meaning c.args.ground.now in
-    let j = c.in-ok-arc.arc in
-    let k = known_some (ltb j m.arcs) (m.head j) c.in-ok-head.head (sym c.in-ok-head.ensures) in
+    let j = c.in_ok-arc.arc in
+    let k = known_some (ltb j m.arcs) (m.head j) c.in_ok-head.head (sym c.in_ok-head.ensures) in
     record {
-      step = sym (cond-false _ _ _ (ne_eqb _ _ c.if-p-landing.false) ∙ ap (with_head m) (sym (c.in-ok-arc.ensures.found c.requires)) ∙ ap (λ h. Some (j, h)) (sym k.1));
+      step = sym (cond-false _ _ _ (ne_eqb _ _ c.if-p-landing.false) ∙ ap (with_head m) (sym (c.in_ok-arc.ensures.found c.requires)) ∙ ap (λ h. Some (j, h)) (sym k.1));
       arc = ltb-true _ _ k.0;
     }

@@ -16,8 +16,8 @@ pub loop-arc-preserved : goal.loop-arc-preserved
 loop-arc-preserved c =
     let cost : ℕ → ℕ = λ j. get_or c.args.costs.now j 0 in (
       c.loop-arc.invariant.0 ∙ all_step (λ j. ltb j (length c.args.costs.now)) c.args.arcs.now c.loop-arc.arc-index (omega arith) (lt-ltb _ _ (omega arith)),
-      c.loop-arc.invariant.1 ∙ sum_step cost c.args.arcs.now c.loop-arc.arc-index c.loop-arc.sum (omega arith) ∙ ap (λ z. z ⊕ capped_sum cost (drop (c.loop-arc.arc-index + 1) c.args.arcs.now)) (sym c.capped-sum-sum.ensures),
-      omega (arith, c.capped-sum-sum.ensures),
+      c.loop-arc.invariant.1 ∙ sum_step cost c.args.arcs.now c.loop-arc.arc-index c.loop-arc.sum (omega arith) ∙ ap (λ z. z ⊕ capped_sum cost (drop (c.loop-arc.arc-index + 1) c.args.arcs.now)) (sym c.capped_sum-sum.ensures),
+      omega (arith, c.capped_sum-sum.ensures),
     )
 
 pub returns : goal.returns

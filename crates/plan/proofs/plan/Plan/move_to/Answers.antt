@@ -7,8 +7,8 @@ use Rattle.plan.proofs.plan.Plan.move_to.Goals as goal
 pub returns-then-place-header : goal.returns-then-place-header
 returns-then-place-header c =
     let o = c.args.self.now.header in
-    let h = c.in-ok-header.header in
-    let is = begun_is o h c.in-ok-header.ensures in
+    let h = c.in_ok-header.header in
+    let is = begun_is o h c.in_ok-header.ensures in
     record {
       declined = sym (move_declines_lem o h is c.args.place ∙ cond-false _ _ _ (le-ltb _ _ c.if-place-header.true));
       kept = refl;
@@ -18,8 +18,8 @@ returns-then-place-header c =
 pub returns : goal.returns
 returns c =
     let o = c.args.self.now.header in
-    let h = c.in-ok-header.header in
-    let is = begun_is o h c.in-ok-header.ensures in
+    let h = c.in_ok-header.header in
+    let is = begun_is o h c.in_ok-header.ensures in
     record {
       declined = sym (move_declines_lem o h is c.args.place ∙ cond-true _ _ _ (lt-ltb _ _ c.if-place-header.false));
       kept = tt;

@@ -11,41 +11,41 @@ use Rattle.plan.proofs.Altering.{held_by}
 use Rattle.plan.proofs.Routing.{no_route_course, route_course_lem, route_declines_lem, route_list_short, route_no_way, route_not_settled, route_told}
 use Rattle.plan.proofs.plan.Plan.route.Goals as goal
 
-pub returns-in-err-course-for : goal.returns-in-err-course-for
-returns-in-err-course-for g c =
+pub returns-in_err-course_for : goal.returns-in_err-course_for
+returns-in_err-course_for g c =
     let m = g.G.Ground.meaning c.args.ground.now in
     let law : Lawful m = g.G.Ground.lawful c.args.ground.now in
     let o = c.args.self.now.header in
-    let h = c.in-ok-header.header in
+    let h = c.in_ok-header.header in
     let costs = c.args.costs.now in
     let places = c.args.places.now in
     let entries = length c.args.list.now in
-    let on = begun_on_is o m h c.in-ok-header.ensures in
-    let long = sym c.if-is-short.ensures in
-    let p = err_from_is_err_and c.from-residual-in-err-course-for.result c.from-residual-in-err-course-for.ensures.1 in
-    let no = no_route_course h.phase c.in-err-course-for.field-0.0 c.in-err-course-for.ensures in
+    let on = begun_on_is o m h c.in_ok-header.ensures in
+    let long = sym c.if-is_short.ensures in
+    let p = err_from_is_err_and c.from_residual-in_err-course_for.result c.from_residual-in_err-course_for.ensures.1 in
+    let no = no_route_course h.phase c.in_err-course_for.field-0.0 c.in_err-course_for.ensures in
     rw (p.1, p.2, no.1) record {
       declined = subst (λ (r : Option Refusal). RouteTurnedAway r (Err NotSettled)) (sym (route_declines_lem m o h on (length costs) (length places) long entries false no.0)) refl;
       kept = refl;
       state = λ queue s few held. route_not_settled m law s h o costs places queue (held_by m s h (standing_at o costs places queue) on.header held) entries no.0;
     }
 
-pub returns-then-is-far : goal.returns-then-is-far
-returns-then-is-far g c =
+pub returns-then-is_far : goal.returns-then-is_far
+returns-then-is_far g c =
     let m = g.G.Ground.meaning c.args.ground.now in
     let law : Lawful m = g.G.Ground.lawful c.args.ground.now in
     let o = c.args.self.now.header in
-    let h = c.in-ok-header.header in
+    let h = c.in_ok-header.header in
     let costs = c.args.costs.now in
     let places = c.args.places.now in
     let entries = length c.args.list.now in
-    let on = begun_on_is o m h c.in-ok-header.ensures in
-    let long = sym c.if-is-short.ensures in
-    let settled = route_course_lem h.phase c.in-ok-course-for.field-0 c.in-ok-course-for.ensures in
+    let on = begun_on_is o m h c.in_ok-header.ensures in
+    let long = sym c.if-is_short.ensures in
+    let settled = route_course_lem h.phase c.in_ok-course_for.field-0 c.in_ok-course_for.ensures in
     record {
       declined = subst (λ (r : Option Refusal). RouteTurnedAway r (Err NoWay)) (sym (route_declines_lem m o h on (length costs) (length places) long entries true settled)) (inl refl);
       kept = refl;
-      state = λ queue s few held. route_no_way m law s h o costs places queue (held_by m s h (standing_at o costs places queue) on.header held) entries settled (sym c.if-is-far.ensures);
+      state = λ queue s few held. route_no_way m law s h o costs places queue (held_by m s h (standing_at o costs places queue) on.header held) entries settled (sym c.if-is_far.ensures);
     }
 
 pub returns-then-count-list : goal.returns-then-count-list
@@ -53,17 +53,17 @@ returns-then-count-list g c =
     let m = g.G.Ground.meaning c.args.ground.now in
     let law : Lawful m = g.G.Ground.lawful c.args.ground.now in
     let o = c.args.self.now.header in
-    let h = c.in-ok-header.header in
+    let h = c.in_ok-header.header in
     let costs = c.args.costs.now in
     let places = c.args.places.now in
     let entries = length c.args.list.now in
-    let on = begun_on_is o m h c.in-ok-header.ensures in
-    let long = sym c.if-is-short.ensures in
-    let settled = route_course_lem h.phase c.in-ok-course-for.field-0 c.in-ok-course-for.ensures in
+    let on = begun_on_is o m h c.in_ok-header.ensures in
+    let long = sym c.if-is_short.ensures in
+    let settled = route_course_lem h.phase c.in_ok-course_for.field-0 c.in_ok-course_for.ensures in
     record {
       declined = subst (λ (r : Option Refusal). RouteTurnedAway r (Err ListShort)) (sym (route_declines_lem m o h on (length costs) (length places) long entries true settled)) (inr refl);
       kept = refl;
-      state = λ queue s few held. route_list_short m law s h o costs places queue (held_by m s h (standing_at o costs places queue) on.header held) entries settled (sym c.is-far.ensures ∙ c.if-is-far.false) c.count-arcs-count.result c.count-arcs-count.ensures c.if-count-list.true;
+      state = λ queue s few held. route_list_short m law s h o costs places queue (held_by m s h (standing_at o costs places queue) on.header held) entries settled (sym c.is_far.ensures ∙ c.if-is_far.false) c.count_arcs-count.result c.count_arcs-count.ensures c.if-count-list.true;
     }
 
 pub returns : goal.returns
@@ -71,15 +71,15 @@ returns g c =
     let m = g.G.Ground.meaning c.args.ground.now in
     let law : Lawful m = g.G.Ground.lawful c.args.ground.now in
     let o = c.args.self.now.header in
-    let h = c.in-ok-header.header in
+    let h = c.in_ok-header.header in
     let costs = c.args.costs.now in
     let places = c.args.places.now in
     let entries = length c.args.list.now in
-    let on = begun_on_is o m h c.in-ok-header.ensures in
-    let long = sym c.if-is-short.ensures in
-    let settled = route_course_lem h.phase c.in-ok-course-for.field-0 c.in-ok-course-for.ensures in
+    let on = begun_on_is o m h c.in_ok-header.ensures in
+    let long = sym c.if-is_short.ensures in
+    let settled = route_course_lem h.phase c.in_ok-course_for.field-0 c.in_ok-course_for.ensures in
     record {
-      declined = subst (λ (r : Option Refusal). RouteTurnedAway r (Ok (Route c.count-arcs-count.result c.write-arcs-sum.result))) (sym (route_declines_lem m o h on (length costs) (length places) long entries true settled)) tt;
-      kept = c.write-arcs-sum.ensures.rest;
-      state = λ queue s few held. route_told m law s h o costs places queue (held_by m s h (standing_at o costs places queue) on.header held) entries settled (sym c.is-far.ensures ∙ c.if-is-far.false) c.count-arcs-count.result c.count-arcs-count.ensures c.if-count-list.false (take c.count-arcs-count.result c.write-arcs-sum.new.list) c.write-arcs-sum.result (c.write-arcs-sum.ensures.front c.count-arcs-count.ensures) (c.write-arcs-sum.ensures.summed c.count-arcs-count.ensures);
+      declined = subst (λ (r : Option Refusal). RouteTurnedAway r (Ok (Route c.count_arcs-count.result c.write_arcs-sum.result))) (sym (route_declines_lem m o h on (length costs) (length places) long entries true settled)) tt;
+      kept = c.write_arcs-sum.ensures.rest;
+      state = λ queue s few held. route_told m law s h o costs places queue (held_by m s h (standing_at o costs places queue) on.header held) entries settled (sym c.is_far.ensures ∙ c.if-is_far.false) c.count_arcs-count.result c.count_arcs-count.ensures c.if-count-list.false (take c.count_arcs-count.result c.write_arcs-sum.new.list) c.write_arcs-sum.result (c.write_arcs-sum.ensures.front c.count_arcs-count.ensures) (c.write_arcs-sum.ensures.summed c.count_arcs-count.ensures);
     }

@@ -6,14 +6,14 @@ use Rattle.plan.proofs.Admitting.{begun_is, refusal_is, kept_since, carried_sinc
 use Rattle.plan.proofs.Altering.{stretch_declines_lem, stretch_outside, stretch_within, stretch_declined, stretch_done}
 use Rattle.plan.proofs.plan.Plan.stretch_to.Goals as goal
 
-pub returns-in-err-slack : goal.returns-in-err-slack
-returns-in-err-slack c =
+pub returns-in_err-slack : goal.returns-in_err-slack
+returns-in_err-slack c =
     let o = c.args.self.now.header in
-    let h = c.in-ok-header.header in
-    let is = begun_is o h c.in-ok-header.ensures in
-    let r = c.from-residual-in-err-slack.result in
-    let p = err_from_is_err_and r c.from-residual-in-err-slack.ensures.1 in
-    let d = c.in-err-slack.ensures in
+    let h = c.in_ok-header.header in
+    let is = begun_is o h c.in_ok-header.ensures in
+    let r = c.from_residual-in_err-slack.result in
+    let p = err_from_is_err_and r c.from_residual-in_err-slack.ensures.1 in
+    let d = c.in_err-slack.ensures in
     let e : r ≡ Err StretchOutside = p.1 ∙ ap Err (p.2 ∙ d.1) in
     record {
       declined = λ m. refusal_is r StretchOutside e ∙ sym (stretch_declines_lem o h is m c.args.slack ∙ stretch_outside m c.args.slack d.0);
@@ -24,11 +24,11 @@ returns-in-err-slack c =
 pub returns : goal.returns
 returns c =
     let o = c.args.self.now.header in
-    let h = c.in-ok-header.header in
-    let is = begun_is o h c.in-ok-header.ensures in
-    let d = c.in-ok-slack.ensures in
+    let h = c.in_ok-header.header in
+    let is = begun_is o h c.in_ok-header.ensures in
+    let d = c.in_ok-slack.ensures in
     record {
       declined = λ m. sym (stretch_declines_lem o h is m c.args.slack ∙ stretch_within m c.args.slack d.0);
       kept = tt;
-      state = λ m costs places queue. stretch_done o h is m costs places queue c.args.slack d.0 c.in-ok-slack.slack d.1 c.altered.result c.altered.ensures;
+      state = λ m costs places queue. stretch_done o h is m costs places queue c.args.slack d.0 c.in_ok-slack.slack d.1 c.altered.result c.altered.ensures;
     }
