@@ -47,16 +47,16 @@ pub returns-in-Move : goal.returns-in-Move
 returns-in-Move g c =
     let m = g.G.Ground.meaning c.args.ground.now in
     let lawful = g.G.Ground.lawful c.args.ground.now in
-    let r = c.move-to.result in
+    let r = c.move_to.result in
     let before : Stand = stand_of c.args.plan.now c.args.costs.now c.args.places.now c.args.queue.now in
-    let after : Stand = stand_of c.move-to.new.self c.args.costs.now c.args.places.now c.args.queue.now in
+    let after : Stand = stand_of c.move_to.new.self c.args.costs.now c.args.places.now c.args.queue.now in
     let here : Carried m (Move c.in-Move.place) before c.args.list.now r after c.args.list.now = record {
-      declined = c.move-to.ensures.declined;
-      kept = over (λ s. record { header = s.header; costs = c.args.costs.now; places = c.args.places.now; queue = c.args.queue.now }) r (stand_of c.args.plan.now [] [] []) (stand_of c.move-to.new.self [] [] []) c.move-to.ensures.kept;
+      declined = c.move_to.ensures.declined;
+      kept = over (λ s. record { header = s.header; costs = c.args.costs.now; places = c.args.places.now; queue = c.args.queue.now }) r (stand_of c.args.plan.now [] [] []) (stand_of c.move_to.new.self [] [] []) c.move_to.ensures.kept;
       listed = refl;
       beyond = record { costs_beyond = refl; places_beyond = refl; queue_beyond = refl };
       began = tt;
-      law = keeps m lawful (move_to c.in-Move.place) (heard r []) before after (c.move-to.ensures.state m c.args.costs.now c.args.places.now c.args.queue.now);
+      law = keeps m lawful (move_to c.in-Move.place) (heard r []) before after (c.move_to.ensures.state m c.args.costs.now c.args.places.now c.args.queue.now);
     } in
     let made = carried_as c.in-Move.is here in
     record { declined = made.declined; kept = made.kept; listed = made.listed; beyond = made.beyond; began = made.began; law = made.law; away = turns_away r before after made.kept }
@@ -65,16 +65,16 @@ pub returns-in-Stretch : goal.returns-in-Stretch
 returns-in-Stretch g c =
     let m = g.G.Ground.meaning c.args.ground.now in
     let lawful = g.G.Ground.lawful c.args.ground.now in
-    let r = c.stretch-to.result in
+    let r = c.stretch_to.result in
     let before : Stand = stand_of c.args.plan.now c.args.costs.now c.args.places.now c.args.queue.now in
-    let after : Stand = stand_of c.stretch-to.new.self c.args.costs.now c.args.places.now c.args.queue.now in
+    let after : Stand = stand_of c.stretch_to.new.self c.args.costs.now c.args.places.now c.args.queue.now in
     let here : Carried m (Stretch c.in-Stretch.slack) before c.args.list.now r after c.args.list.now = record {
-      declined = c.stretch-to.ensures.declined m;
-      kept = over (λ s. record { header = s.header; costs = c.args.costs.now; places = c.args.places.now; queue = c.args.queue.now }) r (stand_of c.args.plan.now [] [] []) (stand_of c.stretch-to.new.self [] [] []) c.stretch-to.ensures.kept;
+      declined = c.stretch_to.ensures.declined m;
+      kept = over (λ s. record { header = s.header; costs = c.args.costs.now; places = c.args.places.now; queue = c.args.queue.now }) r (stand_of c.args.plan.now [] [] []) (stand_of c.stretch_to.new.self [] [] []) c.stretch_to.ensures.kept;
       listed = refl;
       beyond = record { costs_beyond = refl; places_beyond = refl; queue_beyond = refl };
       began = tt;
-      law = keeps m lawful (stretch_to c.in-Stretch.slack) (heard r []) before after (c.stretch-to.ensures.state m c.args.costs.now c.args.places.now c.args.queue.now);
+      law = keeps m lawful (stretch_to c.in-Stretch.slack) (heard r []) before after (c.stretch_to.ensures.state m c.args.costs.now c.args.places.now c.args.queue.now);
     } in
     let made = carried_as c.in-Stretch.is here in
     record { declined = made.declined; kept = made.kept; listed = made.listed; beyond = made.beyond; began = made.began; law = made.law; away = turns_away r before after made.kept }
