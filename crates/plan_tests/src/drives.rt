@@ -5,26 +5,29 @@ use grid::grid::Grid;
 use pickup::pickup::Pickup;
 use queue::entry::Entry;
 use roads::roads::Roads;
-use std::test::*;
+use std::test::Fail;
 use survey::survey::survey;
 use terms::arc::Arc;
 
 #[test]
-fn on_a_grid() -> Result<(), Fail> {
+fn on_a_grid(rt: HostRuntime) -> Result<(), Fail> {
     let grid = Grid::new(3, 3, 1)?;
-    drive(&grid, 2, (3, &[2, 10], 10), 10, (4, &[3, 33], 14))
+    drive(&rt, &grid, 2, (3, &[2, 10], 10), 10, (4, &[3, 33], 14));
+    Ok(())
 }
 
 #[test]
-fn with_a_pickup() -> Result<(), Fail> {
+fn with_a_pickup(rt: HostRuntime) -> Result<(), Fail> {
     let grid = Grid::new(3, 3, 1)?;
     drive(
+        &rt,
         &Pickup::new(&grid, 2),
         17,
         (12, &[2, 10, 144, 92, 116], 21),
         10,
         (4, &[3, 33, 144, 92, 116], 25),
-    )
+    );
+    Ok(())
 }
 
 fn arc(tail: u32, head: u32, least: u32) -> Arc {
@@ -60,8 +63,9 @@ fn in_the_town(rt: HostRuntime) -> Result<(), Fail> {
         &mut enterers,
     );
     roads.load(4, &arcs, &heights)?;
-    sample_run(&roads)?;
-    drive(&roads, 3, (3, &[0, 1], 9), 1, (4, &[2, 3], 11))?;
+    sample_run(&rt, &roads);
+    drive(&rt, &roads, 3, (3, &[0, 1], 9), 1, (4, &[2, 3], 11));
     let layer = Pickup::new(&roads, 3);
-    drive(&layer, 7, (6, &[0, 1, 8], 10), 1, (5, &[2, 3, 8], 12))
+    drive(&rt, &layer, 7, (6, &[0, 1, 8], 10), 1, (5, &[2, 3, 8], 12));
+    Ok(())
 }
