@@ -1,5 +1,5 @@
 -- The eight arcs that enter a cell: the table of entries offers them in rising number, and no others enter.
-use Rattle.std.proofs.Common.{◌≡◌, ℕ, zero, suc, ◌+◌, ◌-◌, ◌*◌, ◌/◌, ◌%◌, ◌<◌, ◌≤◌, Bool, true, false, cond, ◌&&◌, eqb, ltb, ◌⊎◌, List, [], length, ℤ, pos, negsuc, Some, None, Option, unwrap_or, sym, refl, ap, ◌∙◌, subst, ap₂, inl, inr, mul-le-mul_right, mul_comm, add-mul, div-add-mod', arith}
+use Rattle.std.proofs.Common.{◌≡◌, ℕ, zero, suc, ◌+◌, ◌*◌, ◌/◌, ◌%◌, ◌<◌, ◌≤◌, Bool, true, cond, ◌&&◌, eqb, ltb, List, [], length, ℤ, pos, negsuc, Some, None, Option, unwrap_or, sym, refl, ap, ◌∙◌, subst, ap₂, inl, inr, mul-le-mul_right, mul_comm, add-mul, div-add-mod', arith}
 use Rattle.std.proofs.lemmas.Nat.{mul-add-lt}
 use Rattle.std.proofs.lemmas.Bool.{eq-eqb, eqb-true, ltb-true, and_parts, cases_order, cases_lt, lt-ltb, le-ltb, cond-true, cond-false}
 use Rattle.ground.proofs.ArcsAt.{arcs_at-beyond}
@@ -10,7 +10,7 @@ use Rattle.ground.specs.Questions.{arcs_at, arcs_from, arcs_into}
 use Rattle.grid.proofs.Leaving.{leaving_are, leaving_count}
 use Rattle.grid.specs.Compass.{step_of, neighbour}
 use Rattle.grid.specs.Entries.{entry_at, towards, arc_of, entering}
-use Rattle.grid.specs.GridLaws.{Moved, Beside, by_direction, row_of, column_of, neighbour_is, neighbour_to, beside_row, beside_column, beside_in, few, gridded_lawful}
+use Rattle.grid.specs.GridLaws.{Moved, by_direction, row_of, column_of, neighbour_is, neighbour_to, beside_row, beside_column, beside_in, few, gridded_lawful}
 use Rattle.grid.specs.Grids.{gridded}
 use Rattle.grid.specs.declared.entries.Entry.{Entry}
 use Rattle.grid.specs.declared.entries.Entry.TheVariants.{Back, Own}

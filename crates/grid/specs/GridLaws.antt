@@ -1,12 +1,12 @@
 -- A grid is lawful. Assumes nothing.
-use Rattle.std.specs.Prelude.{◌≡◌, ℕ, zero, suc, ◌+◌, ◌-◌, ◌*◌, ◌/◌, ◌%◌, ◌<◌, ◌≤◌, min, max, ◌⊎◌, ℤ, pos, negsuc, Some, None, Option, nat_lt, unsigned_abs}
-use Rattle.std.proofs.Common.{inl, inr, sym, ◌∙◌, ap₂, subst, mul-zero, mul_comm, mul_assoc, mul-add, mul-le-mul, mul-le-mul_left, arith}
+use Rattle.std.specs.Prelude.{◌≡◌, ℕ, zero, suc, ◌+◌, ◌-◌, ◌*◌, ◌/◌, ◌%◌, ◌<◌, ◌≤◌, min, max, ℤ, pos, negsuc, Some, None, Option, nat_lt, unsigned_abs}
+use Rattle.std.proofs.Common.{sym, ◌∙◌, ap₂, mul-zero, mul_comm, mul_assoc, mul-add, mul-le-mul, mul-le-mul_left, arith}
 use Rattle.std.proofs.Math.Path.{refl, ap}
 use Rattle.std.specs.Option.{unwrap_or}
 use Rattle.std.proofs.lemmas.Nat.{div_below, mod_below, div-mul-add, mod-mul-add, mul-add-lt}
 use Rattle.std.proofs.lemmas.Bool.{ltb-true, lt-ltb}
 use Rattle.ground.specs.KnownLaws.{not_both, one_answer, known_some, known_there}
-use Rattle.ground.specs.Meanings.{Meaning, Lawful}
+use Rattle.ground.specs.Meanings.{Lawful}
 use Rattle.grid.specs.Compass.{less, same, more, step_of, moved, place_at, beside, neighbour}
 use Rattle.grid.specs.Grids.{gridded, estimated, apart}
 

@@ -5,7 +5,7 @@ use Rattle.terms.specs.Slacks.{InRange}
 use Rattle.ground.specs.Meanings.{Meaning}
 use Rattle.grid.specs.Grids.{estimated}
 use Rattle.method.specs.States.{State}
-use Rattle.method.specs.Keys.{Key, before, over_key, under_key}
+use Rattle.method.specs.Keys.{before, over_key, under_key}
 use Rattle.method.specs.Calls.{Call, set_cost, search_for, outcome}
 use Rattle.method.specs.Pasts.{Begin, begun}
 

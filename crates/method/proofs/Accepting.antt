@@ -1,11 +1,9 @@
 -- When Begin is accepted. Assumes nothing.
-use Rattle.std.proofs.Common.{◌≡◌, ℕ, Bool, true, false, cond, ◌&&◌, ltb, leb, ◌↔◌, Some, None, Option, sym, refl, ap, ◌∙◌, arith}
+use Rattle.std.proofs.Common.{◌≡◌, ℕ, Bool, true, false, cond, ltb, leb, Some, None, refl, ap, ◌∙◌, arith}
 use Rattle.std.proofs.lemmas.Bool.{and_parts, and_from, cond-true, ltb-true, leb-true, lt-ltb, le-leb}
 use Rattle.terms.specs.declared.refusal.Refusal.{Refusal}
 use Rattle.terms.specs.declared.refusal.Refusal.TheVariants.{NoSuchPlace, StretchOutside, TableShort}
-use Rattle.ground.specs.Meanings.{Meaning}
-use Rattle.method.specs.Pasts.{Begin, Accepted}
-use Rattle.method.specs.Handed.{Lent, is_short, begin_refusal, BeginLaw}
+use Rattle.method.specs.Handed.{is_short, BeginLaw}
 
 -- three tests in a row, each with its refusal
 through : (a b c : Bool) (x y z : Refusal) → cond a (cond b (cond c (Some z) None) (Some y)) (Some x) ≡ None → (a ≡ true) × (b ≡ true) × (c ≡ false)

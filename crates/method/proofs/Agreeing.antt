@@ -1,19 +1,18 @@
 -- Calls on states that agree answer alike, and leave states that agree. Assumes nothing.
-use Rattle.std.proofs.Common.{◌≡◌, ℕ, zero, suc, ◌+◌, ◌-◌, ◌<◌, ◌≤◌, Bool, true, false, cond, not, ◌&&◌, ◌||◌, eqb, ltb, leb, ◌⊎◌, List, [], ◌∷◌, map, length, Some, None, filter, Option, sym, refl, ap, ◌∙◌, subst, inl, inr, arith}
+use Rattle.std.proofs.Common.{◌≡◌, ℕ, zero, suc, ◌+◌, ◌-◌, ◌<◌, Bool, true, false, cond, not, ◌&&◌, ◌||◌, eqb, ltb, leb, ◌⊎◌, List, [], ◌∷◌, map, length, Some, None, Option, sym, refl, ap, ◌∙◌, subst, inl, inr, arith}
 use Rattle.std.proofs.lemmas.Bool.{cases_Bool, and_parts, and_from, ltb-true, lt-ltb}
-use Rattle.std.specs.List.{range_with_len}
 use Rattle.terms.specs.Amounts.{far, ◌⊕◌}
 use Rattle.terms.specs.declared.refusal.Refusal.{Refusal}
 use Rattle.terms.specs.declared.refusal.Refusal.TheVariants.{NoSuchArc, NotSettled, NoWay, ListShort}
 use Rattle.ground.specs.Meanings.{Meaning, Lawful}
 use Rattle.ground.specs.Questions.{arcs_from}
 use Rattle.ground.proofs.ArcsAt.{kept_same}
-use Rattle.method.specs.States.{State, Phase, settled, under_way, changed, is_changed, is_settled, put}
+use Rattle.method.specs.States.{State, is_changed, is_settled}
 use Rattle.method.specs.Values.{smallest, offer, rhs, over, level, is_open, open_places}
-use Rattle.method.specs.Keys.{Key, before, over_key, under_key, key}
+use Rattle.method.specs.Keys.{before, over_key, under_key, key}
 use Rattle.method.specs.Choices.{better, best}
 use Rattle.method.specs.Turns.{soonest, all_of, is_none, here_after, ended, turn_taken, turn_with, turn, run}
-use Rattle.method.specs.Calls.{Call, set_cost, move_to, stretch_to, search_for, route_into, sum_over, Answer, done, settles, cuts, routes, sums, refuses, Outcome, unless, standing, capped_sum, cheapest, onward, follow, route_of, set_refusal, move_refusal, stretch_refusal, sum_refusal, route_refusal, cost_set, moved, stretched, emptied, start, in_phase, searched, verdict, outcome}
+use Rattle.method.specs.Calls.{Call, set_cost, move_to, stretch_to, search_for, route_into, sum_over, Answer, done, settles, cuts, routes, sums, unless, standing, capped_sum, cheapest, onward, follow, route_of, set_refusal, move_refusal, stretch_refusal, sum_refusal, route_refusal, cost_set, moved, stretched, emptied, start, searched, verdict, outcome}
 use Rattle.method.specs.Agreement.{Agrees, Alike, AgreementLaw}
 use Rattle.method.proofs.Members.{Member, member_kept}
 use Rattle.method.proofs.Offers.{left_by}

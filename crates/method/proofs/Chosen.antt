@@ -1,11 +1,10 @@
 -- The choice of a place and the end of a search in words. Assumes nothing.
-use Rattle.std.proofs.Common.{◌≡◌, ℕ, zero, suc, ◌+◌, ◌<◌, ◌≤◌, Bool, true, false, cond, not, ◌&&◌, ◌||◌, eqb, ltb, ◌⊎◌, List, [], ◌∷◌, Some, None, filter, Option, sym, refl, ap, ◌∙◌, subst, inl, inr, arith}
-use Rattle.std.specs.List.{range_with_len, AllByRecursion as All}
+use Rattle.std.proofs.Common.{◌≡◌, ℕ, ◌<◌, Bool, true, false, not, eqb, ◌⊎◌, List, [], ◌∷◌, Some, None, Option, sym, refl, ap, ◌∙◌, inl, inr, arith}
 use Rattle.std.proofs.lemmas.Bool.{cases_Bool, cases_eq, cases_order, and_from, or_right, or_from, not_from_false, eq-eqb, ne_eqb, true≢false}
 use Rattle.terms.specs.Amounts.{far}
 use Rattle.ground.specs.Meanings.{Meaning}
 use Rattle.method.specs.States.{State}
-use Rattle.method.specs.Values.{rhs, level, is_open, open_places}
+use Rattle.method.specs.Values.{level, is_open, open_places}
 use Rattle.method.specs.Keys.{Key, before, key}
 use Rattle.method.specs.Turns.{soonest, all_of, is_none, here_after, ended}
 use Rattle.method.specs.Laws.{Waits, HasTurn, TurnLaw, SearchOver, EndLaw, ChoiceLaws}

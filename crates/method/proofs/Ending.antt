@@ -1,21 +1,19 @@
 -- Where a search has ended: the route keeps the slack, and a value of far means that there is no open chain. Assumes nothing.
-use Rattle.std.proofs.Common.{◌≡◌, ℕ, ◌+◌, ◌*◌, ◌<◌, ◌≤◌, min, Bool, true, false, ◌⊎◌, List, [], ◌∷◌, length, sym, refl, ap, ◌∙◌, subst, inl, inr, mul-le-mul_right, mul-le-mul_left, mul-add, arith}
+use Rattle.std.proofs.Common.{◌≡◌, ℕ, ◌+◌, ◌*◌, ◌<◌, ◌≤◌, min, true, false, ◌⊎◌, List, [], ◌∷◌, length, sym, ap, ◌∙◌, subst, inl, inr, mul-le-mul_right, mul-le-mul_left, mul-add, arith}
 use Rattle.std.specs.List.{AllByRecursion as All}
 use Rattle.std.proofs.lemmas.Bool.{cases_Bool, cases_eq, cases_lt, true≢false}
-use Rattle.terms.specs.Amounts.{far, ◌⊕◌}
+use Rattle.terms.specs.Amounts.{far}
 use Rattle.ground.specs.Meanings.{Meaning, Lawful}
-use Rattle.ground.specs.Chains.{Chain, passes, sum_of}
+use Rattle.ground.specs.Chains.{Chain, sum_of}
 use Rattle.method.specs.States.{State}
-use Rattle.method.specs.Values.{offer, rhs}
-use Rattle.method.specs.Keys.{Key, before, under_key, over_key, key}
+use Rattle.method.specs.Values.{rhs}
+use Rattle.method.specs.Keys.{before, under_key, over_key, key}
 use Rattle.method.specs.Calls.{capped_sum, follow, route_of}
-use Rattle.method.proofs.Offers.{rhs_landing, rhs_offer}
-use Rattle.method.proofs.Orders.{floor, key_over, key_floor, first_before, nearer_floor}
-use Rattle.method.proofs.Seen.{Standing, Seen, see}
+use Rattle.method.proofs.Orders.{key_over, key_floor, first_before, nearer_floor}
+use Rattle.method.proofs.Seen.{Seen, see}
 use Rattle.method.proofs.Opens.{Open}
-use Rattle.method.proofs.Passing.{Pass}
 use Rattle.method.proofs.Running.{Sound, End, nothing_open, here_first}
-use Rattle.method.proofs.Arriving.{Step, rank, rank_below, Arrives, Goes, arrive}
+use Rattle.method.proofs.Arriving.{Step, rank_below, Arrives, Goes, arrive}
 
 pub capped_is : (cost : ℕ → ℕ) (js : List ℕ) → capped_sum cost js ≡ min (sum_of cost js) far
 capped_is cost [] = omega arith

@@ -1,10 +1,10 @@
 -- What a change of values does to each rhs. Assumes nothing.
-use Rattle.std.proofs.Common.{◌≡◌, ℕ, ◌+◌, ◌<◌, ◌≤◌, min, Bool, true, false, ◌⊎◌, sym, refl, ap, ◌∙◌, inl, inr, arith}
+use Rattle.std.proofs.Common.{◌≡◌, ℕ, ◌+◌, ◌<◌, ◌≤◌, Bool, ◌⊎◌, sym, refl, ap, ◌∙◌, inl, inr, arith}
 use Rattle.std.proofs.lemmas.Bool.{cases_eq, cases_lt}
-use Rattle.terms.specs.Amounts.{far, ◌⊕◌}
+use Rattle.terms.specs.Amounts.{far}
 use Rattle.ground.specs.Meanings.{Meaning}
 use Rattle.method.specs.States.{State}
-use Rattle.method.specs.Values.{offer, rhs}
+use Rattle.method.specs.Values.{rhs}
 use Rattle.method.proofs.Offers.{rhs_far, rhs_landing, rhs_offer, Offered, rhs_from}
 
 -- the state after a turn that leaves these values and this Closed

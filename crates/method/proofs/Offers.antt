@@ -1,12 +1,12 @@
 -- The rhs of a place by its facts: 0 at the landing, at most each offer, and one of the offers where it is below far. Assumes nothing.
-use Rattle.std.proofs.Common.{◌≡◌, ℕ, ◌+◌, ◌<◌, ◌≤◌, min, Bool, true, false, cond, eqb, ◌⊎◌, List, [], ◌∷◌, map, sym, refl, ap, ◌∙◌, inl, inr, arith}
+use Rattle.std.proofs.Common.{◌≡◌, ℕ, ◌<◌, ◌≤◌, eqb, List, [], ◌∷◌, map, refl, ap, ◌∙◌, inl, inr, arith}
 use Rattle.std.proofs.lemmas.Bool.{cases_eq, cases_lt, cond-true, cond-false, eq-eqb, ne_eqb, eqb-true}
-use Rattle.terms.specs.Amounts.{far, ◌⊕◌}
+use Rattle.terms.specs.Amounts.{far}
 use Rattle.ground.specs.Meanings.{Meaning}
 use Rattle.ground.specs.Questions.{arcs_from, arcs_at}
 use Rattle.method.specs.States.{State}
 use Rattle.method.specs.Values.{smallest, offer, rhs}
-use Rattle.method.proofs.Members.{Member, Kept, kept_member, member_kept}
+use Rattle.method.proofs.Members.{Member, kept_member, member_kept}
 
 pub smallest_far : (xs : List ℕ) → smallest xs ≤ far
 smallest_far [] = omega arith

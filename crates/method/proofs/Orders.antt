@@ -1,9 +1,9 @@
 -- The order of keys, and what the argument of the route promise uses of them. Assumes nothing.
-use Rattle.std.proofs.Common.{◌≡◌, ℕ, ◌+◌, ◌*◌, ◌<◌, ◌≤◌, Bool, true, false, cond, ◌&&◌, ◌||◌, eqb, ltb, ◌⊎◌, sym, refl, ap, ◌∙◌, inl, inr, mul-le-mul_right, arith}
+use Rattle.std.proofs.Common.{◌≡◌, ℕ, ◌+◌, ◌*◌, ◌<◌, ◌≤◌, true, false, ◌&&◌, eqb, ltb, ◌⊎◌, sym, inl, inr, mul-le-mul_right, arith}
 use Rattle.std.proofs.lemmas.Bool.{cases_Bool, cond-true, cond-false, ltb-true, ltb-false, lt-ltb, le-ltb, eqb-true, eqb-false, or_cases, or_parts, or_left, or_right, and_parts, and_cases, and_from, eq-eqb}
 use Rattle.ground.specs.Meanings.{Meaning}
 use Rattle.method.specs.States.{State}
-use Rattle.method.specs.Values.{rhs, over, under}
+use Rattle.method.specs.Values.{rhs, over}
 use Rattle.method.specs.Keys.{Key, before, over_key, under_key, key}
 
 -- k does not come after l

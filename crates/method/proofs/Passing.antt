@@ -1,15 +1,15 @@
 -- What every turn of a pass keeps. Assumes nothing.
-use Rattle.std.proofs.Common.{◌≡◌, ℕ, ◌+◌, ◌*◌, ◌<◌, ◌≤◌, Bool, true, false, ◌⊎◌, List, [], ◌∷◌, sym, refl, ap, ◌∙◌, subst, inl, inr, mul-add, arith}
+use Rattle.std.proofs.Common.{◌≡◌, ℕ, ◌*◌, ◌<◌, ◌≤◌, Bool, true, false, ◌⊎◌, List, sym, refl, ap, ◌∙◌, subst, inl, inr, mul-add, arith}
 use Rattle.std.proofs.lemmas.Bool.{cases_eq, cases_lt, cases_Bool, true≢false}
 use Rattle.terms.specs.Amounts.{far}
 use Rattle.ground.specs.Meanings.{Meaning, Lawful}
 use Rattle.ground.specs.Chains.{Chain, sum_of}
 use Rattle.method.specs.States.{State}
 use Rattle.method.specs.Values.{rhs}
-use Rattle.method.specs.Keys.{Key, over_key, under_key, key}
+use Rattle.method.specs.Keys.{under_key, key}
 use Rattle.method.proofs.Offers.{rhs_far}
 use Rattle.method.proofs.Orders.{Upto, upto_trans, floor, key_over, key_floor, closed_floor, raised_floor}
-use Rattle.method.proofs.Seen.{Standing, ClosedGood, Seen, see, along}
+use Rattle.method.proofs.Seen.{Standing, ClosedGood, Seen, see}
 use Rattle.method.proofs.Opens.{Open}
 use Rattle.method.proofs.Moves.{turned, rhs_falls, rhs_stays, Rested, rested}
 

@@ -1,21 +1,18 @@
 -- The route promise, for every past. Assumes nothing.
-use Rattle.std.proofs.Common.{◌≡◌, ℕ, ◌+◌, ◌-◌, ◌*◌, ◌<◌, ◌≤◌, Bool, true, false, cond, not, ◌&&◌, ◌||◌, eqb, leb, ◌⊎◌, List, [], ◌∷◌, ◌++◌, length, Some, None, Option, sym, refl, ap, ◌∙◌, subst, inl, inr, arith}
+use Rattle.std.proofs.Common.{◌≡◌, ℕ, ◌+◌, ◌-◌, ◌*◌, ◌<◌, ◌≤◌, Bool, true, false, cond, ◌⊎◌, List, [], ◌∷◌, ◌++◌, length, Some, None, Option, sym, refl, ap, ◌∙◌, subst, inl, inr, arith}
 use Rattle.std.specs.List.{AllByRecursion as All}
 use Rattle.std.proofs.lemmas.Bool.{cases_Bool, cases_eq, cases_lt, cond-true, cond-false, eq-eqb, ne_eqb, le-leb, lt-leb, true≢false, false≢true}
 use Rattle.terms.specs.Amounts.{far}
 use Rattle.terms.specs.declared.refusal.Refusal.{Refusal}
-use Rattle.terms.specs.declared.refusal.Refusal.TheVariants.{NoWay, ListShort, NotSettled}
+use Rattle.terms.specs.declared.refusal.Refusal.TheVariants.{NoWay, ListShort}
 use Rattle.ground.specs.Meanings.{Meaning, Lawful}
 use Rattle.ground.specs.Chains.{Chain, passes}
 use Rattle.method.specs.States.{State, Phase, changed, under_way, settled, is_changed, is_settled}
 use Rattle.method.specs.Turns.{ended}
-use Rattle.method.specs.Calls.{Call, set_cost, move_to, stretch_to, search_for, route_into, sum_over, Answer, done, settles, cuts, routes, sums, refuses, Outcome, unless, set_refusal, move_refusal, stretch_refusal, sum_refusal, route_refusal, route_of, capped_sum, cost_set, moved, stretched, emptied, start, in_phase, searched, verdict, outcome}
+use Rattle.method.specs.Calls.{set_cost, move_to, stretch_to, search_for, route_into, sum_over, Answer, done, settles, routes, refuses, unless, set_refusal, move_refusal, stretch_refusal, sum_refusal, route_refusal, route_of, capped_sum, cost_set, moved, stretched, emptied, start, searched, verdict, outcome}
 use Rattle.method.specs.Pasts.{Begin, Accepted, Event, called, turned_away, Past, next, Right, state_after, Told, accepted, here_in, slack_in, cost_in, settled_in, alters, turns_said, turns_of, turns_in}
-use Rattle.method.specs.Promise.{Once, OpenChain, chain_sum, GoodRoute, KeepsSlack, NoWayIsNoWay, RoutePromise, RoutePromiseHolds}
-use Rattle.method.proofs.Seen.{Standing}
-use Rattle.method.proofs.Weights.{total}
-use Rattle.method.proofs.Running.{weight, Sound, End, ended_end, Ran, weightless_ended}
-use Rattle.method.proofs.Arriving.{Arrives}
+use Rattle.method.specs.Promise.{Once, OpenChain, GoodRoute, KeepsSlack, NoWayIsNoWay, RoutePromiseHolds}
+use Rattle.method.proofs.Running.{Sound, End, ended_end, Ran, weightless_ended}
 use Rattle.method.proofs.Ending.{route_arrives, route_slack, no_way_none}
 use Rattle.method.proofs.Reaching.{Reached, reached, searched_ran}
 

@@ -1,20 +1,18 @@
 -- What holds of the state that a past leads to, and that it agrees with what can be read off the past. Assumes nothing.
-use Rattle.std.proofs.Common.{◌≡◌, ℕ, ◌+◌, ◌-◌, ◌*◌, ◌<◌, ◌≤◌, Bool, true, false, cond, not, ◌&&◌, ◌||◌, eqb, ltb, leb, ◌⊎◌, List, [], ◌∷◌, Some, None, Option, unwrap_or, sym, refl, ap, ◌∙◌, subst, inl, inr, arith}
-use Rattle.std.proofs.lemmas.Bool.{cases_Bool, cases_eq, cond-true, cond-false, cond_both, eq-eqb, eqb-true, eqb-false, ltb-true, leb-true, or_cases, and_parts, true≢false, false≢true}
+use Rattle.std.proofs.Common.{◌≡◌, ℕ, ◌-◌, ◌<◌, ◌≤◌, Bool, true, false, cond, ◌&&◌, eqb, ltb, leb, ◌⊎◌, [], ◌∷◌, Some, None, Option, unwrap_or, sym, refl, ap, ◌∙◌, subst, inl, inr, arith}
+use Rattle.std.proofs.lemmas.Bool.{cases_Bool, cond-true, cond_both, eq-eqb, eqb-true, ltb-true, leb-true, or_cases, and_parts, true≢false, false≢true}
 use Rattle.terms.specs.Amounts.{far}
 use Rattle.terms.specs.declared.refusal.Refusal.{Refusal}
 use Rattle.terms.specs.declared.refusal.Refusal.TheVariants.{NoSuchArc, CostOutside}
 use Rattle.ground.specs.Meanings.{Meaning, Lawful}
-use Rattle.method.specs.States.{State, Phase, changed, under_way, settled, is_changed, is_settled, put}
+use Rattle.method.specs.States.{State, Phase, under_way, settled, is_changed, is_settled, put}
 use Rattle.method.specs.Values.{rhs, is_open}
 use Rattle.method.specs.Keys.{key}
-use Rattle.method.specs.Turns.{ended, run}
-use Rattle.method.specs.Calls.{Call, set_cost, move_to, stretch_to, search_for, route_into, sum_over, Answer, done, settles, cuts, routes, sums, refuses, Outcome, unless, standing, set_refusal, move_refusal, stretch_refusal, sum_refusal, route_refusal, route_of, capped_sum, cost_set, moved, stretched, emptied, start, in_phase, searched, verdict, outcome}
-use Rattle.method.specs.Pasts.{Begin, Accepted, begun, Event, called, turned_away, Past, next, Right, state_after, Told, accepted, here_in, slack_in, cost_in, settled_in}
-use Rattle.method.proofs.Orders.{floor}
+use Rattle.method.specs.Turns.{ended}
+use Rattle.method.specs.Calls.{set_cost, move_to, stretch_to, search_for, route_into, sum_over, Answer, done, refuses, unless, standing, set_refusal, move_refusal, stretch_refusal, sum_refusal, route_refusal, cost_set, moved, stretched, emptied, start, in_phase, searched, verdict, outcome}
+use Rattle.method.specs.Pasts.{Begin, Accepted, begun, Event, called, turned_away, Past, next, Right, state_after, Told, here_in, slack_in, cost_in, settled_in}
 use Rattle.method.proofs.Seen.{Standing}
-use Rattle.method.proofs.Passing.{Pass}
-use Rattle.method.proofs.Weights.{total, total_most}
+use Rattle.method.proofs.Weights.{total_most}
 use Rattle.method.proofs.Running.{weight, Sound, Alike, Ran, run_ran}
 
 -- neither what holds of a plan nor its end test looks at the phase

@@ -1,11 +1,11 @@
 -- A run of turns keeps a plan sound, and ends within twice the places. Assumes nothing.
-use Rattle.std.proofs.Common.{◌≡◌, ℕ, zero, suc, ◌+◌, ◌*◌, ◌<◌, ◌≤◌, Bool, true, false, cond, not, ◌&&◌, ◌||◌, eqb, ltb, ◌⊎◌, List, [], ◌∷◌, Some, None, Option, sym, refl, ap, ◌∙◌, subst, inl, inr, arith}
-use Rattle.std.proofs.lemmas.Bool.{cases_Bool, cases_eq, cases_lt, cases_order, cond-true, cond-false, cond_both, eq-eqb, ne_eqb, eqb-true, eqb-false, lt-ltb, le-ltb, ltb-true, or_cases, or_parts, or_left, or_right, and_parts, and_from, not-true, true≢false}
+use Rattle.std.proofs.Common.{◌≡◌, ℕ, zero, suc, ◌+◌, ◌*◌, ◌<◌, ◌≤◌, Bool, true, false, cond, not, ◌&&◌, ◌||◌, eqb, ◌⊎◌, List, [], ◌∷◌, Some, None, Option, sym, refl, ap, ◌∙◌, subst, inl, inr, arith}
+use Rattle.std.proofs.lemmas.Bool.{cases_eq, cases_order, cond-true, cond-false, cond_both, eq-eqb, ne_eqb, eqb-true, eqb-false, lt-ltb, le-ltb, or_cases, or_parts, or_left, and_parts, not-true, true≢false}
 use Rattle.terms.specs.Amounts.{far}
 use Rattle.ground.specs.Meanings.{Meaning, Lawful}
 use Rattle.method.specs.States.{State, put}
 use Rattle.method.specs.Values.{rhs, over, level, open_places}
-use Rattle.method.specs.Keys.{Key, before, key}
+use Rattle.method.specs.Keys.{before, key}
 use Rattle.method.specs.Turns.{soonest, all_of, is_none, here_after, ended, turn_taken, turn_with, turn, run}
 use Rattle.method.proofs.Members.{Member}
 use Rattle.method.proofs.Offers.{rhs_far}
@@ -13,7 +13,7 @@ use Rattle.method.proofs.Seen.{Standing}
 use Rattle.method.proofs.Opens.{Open, open_listed, listed_open, soonest_none, soonest_least}
 use Rattle.method.proofs.Moves.{turned}
 use Rattle.method.proofs.Passing.{Pass, First, over_turn, under_turn}
-use Rattle.method.proofs.Weights.{total, total_most, total_none, total_falls}
+use Rattle.method.proofs.Weights.{total, total_none, total_falls}
 
 -- how many turns a place can still have: none once it is closed, one from far, else two
 abbrev pub weight : State → ℕ → ℕ

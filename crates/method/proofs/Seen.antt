@@ -1,12 +1,12 @@
 -- A bad place is seen: where a place's rhs breaks the slack against some chain, an open over place on that chain has a smaller key.
 -- Assumes nothing.
-use Rattle.std.proofs.Common.{◌≡◌, ℕ, ◌+◌, ◌*◌, ◌<◌, ◌≤◌, Bool, true, false, ◌⊎◌, List, [], ◌∷◌, sym, refl, ap, ◌∙◌, subst, inl, inr, mul-le-mul_right, mul-le-mul_left, mul-add, arith}
+use Rattle.std.proofs.Common.{◌≡◌, ℕ, ◌+◌, ◌*◌, ◌<◌, ◌≤◌, true, false, ◌⊎◌, List, [], ◌∷◌, ap, inl, inr, mul-le-mul_right, mul-le-mul_left, mul-add, arith}
 use Rattle.std.proofs.lemmas.Bool.{cases_Bool, cases_lt}
-use Rattle.terms.specs.Amounts.{far, ◌⊕◌}
+use Rattle.terms.specs.Amounts.{far}
 use Rattle.ground.specs.Meanings.{Meaning, Lawful}
 use Rattle.ground.specs.Chains.{Chain, sum_of}
 use Rattle.method.specs.States.{State}
-use Rattle.method.specs.Values.{offer, rhs}
+use Rattle.method.specs.Values.{rhs}
 use Rattle.method.proofs.Offers.{rhs_landing, rhs_offer}
 
 -- what holds of a plan's numbers, whatever was called

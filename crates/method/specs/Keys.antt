@@ -1,5 +1,5 @@
 -- The keys by which open places are taken. Assumes nothing.
-use Rattle.std.specs.Prelude.{ℕ, ◌+◌, ◌*◌, Bool, true, false, cond, ◌&&◌, ◌||◌, ◌==◌, nat_lt}
+use Rattle.std.specs.Prelude.{ℕ, ◌+◌, ◌*◌, Bool, cond, ◌&&◌, ◌||◌, ◌==◌, nat_lt}
 use Rattle.ground.specs.Meanings.{Meaning}
 use Rattle.method.specs.States.{State}
 use Rattle.method.specs.Values.{rhs, over}

@@ -1,10 +1,10 @@
 -- The choice of a place and the end of a search in words, above the definitions that compute them. Assumes nothing.
-use Rattle.std.specs.Prelude.{◌≡◌, ℕ, ◌<◌, ◌≤◌, true, false, ◌⊎◌, Some, None, ◌≢◌}
+use Rattle.std.specs.Prelude.{◌≡◌, ℕ, ◌<◌, true, false, ◌⊎◌, Some, None, ◌≢◌}
 use Rattle.terms.specs.Amounts.{far}
 use Rattle.ground.specs.Meanings.{Meaning}
 use Rattle.method.specs.States.{State}
-use Rattle.method.specs.Values.{rhs, is_open, open_places}
-use Rattle.method.specs.Keys.{Key, before, key}
+use Rattle.method.specs.Values.{rhs, open_places}
+use Rattle.method.specs.Keys.{before, key}
 use Rattle.method.specs.Turns.{soonest, ended}
 
 module _ (m : Meaning) (s : State) where

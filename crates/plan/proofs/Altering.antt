@@ -1,12 +1,12 @@
 -- What Set, Move and Stretch leave. Assumes nothing.
-use Rattle.std.proofs.Common.{◌≡◌, ℕ, ◌<◌, ◌≤◌, Bool, true, false, cond, ◌&&◌, ltb, leb, ◌⊎◌, List, take, Some, None, Option, sym, refl, ap, ◌∙◌, subst, inl, inr, arith}
+use Rattle.std.proofs.Common.{◌≡◌, ℕ, ◌<◌, ◌≤◌, false, ◌&&◌, ltb, leb, ◌⊎◌, List, Some, None, Option, sym, refl, ap, ◌∙◌, subst, inl, inr, arith}
 use Rattle.std.proofs.lemmas.Bool.{true≢false, lt-ltb, le-ltb, le-leb, lt-leb, cond-true, cond-false, and_from, and_left, and_right, cases_lt}
 use Rattle.terms.specs.declared.refusal.Refusal.{Refusal}
 use Rattle.terms.specs.declared.refusal.Refusal.TheVariants.{NoSuchPlace, StretchOutside}
 use Rattle.terms.specs.declared.slack.Slack.{Slack}
 use Rattle.terms.specs.Slacks.{InRange}
 use Rattle.ground.specs.Meanings.{Meaning}
-use Rattle.method.specs.Calls.{Call, move_to, stretch_to, outcome, Outcome, unless, moved, stretched, move_refusal, stretch_refusal, done, refuses, Answer as Said}
+use Rattle.method.specs.Calls.{Call, move_to, stretch_to, outcome, Outcome, unless, moved, stretched, stretch_refusal, done, refuses, Answer as Said}
 use Rattle.method.specs.States.{State}
 use Rattle.queue.specs.declared.entry.Entry.{Entry}
 use Rattle.queue.specs.declared.key.Key.{Key}

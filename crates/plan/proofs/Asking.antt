@@ -1,7 +1,7 @@
 -- Route and Sum: what the tables tell is what the state says. Assumes nothing.
-use Rattle.std.proofs.Common.{◌≡◌, ℕ, zero, suc, ◌<◌, ◌≤◌, Bool, true, false, cond, ◌&&◌, eqb, ltb, leb, ◌⊎◌, List, [], ◌∷◌, length, get_or, Some, None, Option, sym, refl, ap, ◌∙◌, subst, inl, inr, arith}
+use Rattle.std.proofs.Common.{◌≡◌, ℕ, zero, suc, ◌<◌, Bool, true, false, cond, eqb, ltb, List, [], ◌∷◌, Some, None, Option, refl, ap, ◌∙◌, inl, inr}
 use Rattle.std.proofs.lemmas.Bool.{and_parts, and_from, ltb-true, lt-ltb}
-use Rattle.terms.specs.Amounts.{far, ◌⊕◌}
+use Rattle.terms.specs.Amounts.{◌⊕◌}
 use Rattle.ground.specs.Meanings.{Meaning, Lawful}
 use Rattle.ground.specs.Questions.{arcs_from}
 use Rattle.method.proofs.Bests.{best_member}

@@ -1,8 +1,7 @@
 -- What Begin leaves. Assumes nothing.
-use Rattle.std.proofs.Common.{◌≡◌, ℕ, ◌-◌, ◌<◌, ◌≤◌, Bool, true, false, cond, ◌&&◌, eqb, ltb, leb, ◌⊎◌, List, ◌++◌, length, get_or, Some, None, Option, sym, refl, ap, ◌∙◌, inl, inr, arith}
+use Rattle.std.proofs.Common.{◌≡◌, ℕ, ◌-◌, ◌<◌, ◌≤◌, false, cond, ◌&&◌, eqb, ltb, leb, List, ◌++◌, length, get_or, Some, None, sym, refl, ap, ◌∙◌, inl, inr, arith}
 use borrow.Rule.Slice.PartMut.{post_of}
 use Rattle.std.proofs.lemmas.Bool.{true≢false, cases_eq, cases_lt, lt-ltb, le-leb, cond-true, cond-false, and_from, eq-eqb, ne_eqb}
-use Rattle.terms.specs.declared.refusal.Refusal.{Refusal}
 use Rattle.terms.specs.declared.refusal.Refusal.TheVariants.{NoSuchPlace, StretchOutside, TableShort}
 use Rattle.terms.specs.declared.slack.Slack.{Slack}
 use Rattle.terms.specs.Amounts.{far, ◌⊕◌}
@@ -17,7 +16,6 @@ use Rattle.queue.specs.declared.key.Key.{Key}
 use Rattle.search.specs.declared.aim.Aim.{Aim}
 use Rattle.search.specs.declared.place.Place.{Place}
 use Rattle.search.specs.Tables.{Cached, Shows, place_at, told}
-use Rattle.plan.specs.declared.header.Header.{Header}
 use Rattle.plan.specs.Layouts.{fresh_place}
 use Rattle.plan.specs.Stands.{Holds}
 use Rattle.plan.proofs.Admitting.{standing_at}

@@ -1,12 +1,11 @@
 -- The steps of a route, one arc at a time. Assumes nothing.
-use Rattle.std.proofs.Common.{◌≡◌, ℕ, zero, suc, ◌+◌, ◌-◌, ◌<◌, ◌≤◌, Bool, true, false, cond, eqb, ltb, ◌⊎◌, List, [], ◌∷◌, ◌++◌, length, get_or, take, drop, set, Some, None, Option, sym, refl, ap, ◌∙◌, subst, inl, inr, append_assoc, append-nil, arith, length-append}
+use Rattle.std.proofs.Common.{◌≡◌, ℕ, zero, suc, ◌+◌, ◌-◌, ◌<◌, ◌≤◌, Bool, true, false, cond, eqb, ltb, List, [], ◌∷◌, ◌++◌, length, get_or, take, drop, set, Some, None, Option, sym, refl, ap, ◌∙◌, inl, inr, append_assoc, append-nil, arith, length-append}
 use Rattle.std.proofs.lemmas.List.{drop-set-lt, length-take-le, take_more_set}
 use Rattle.std.proofs.lemmas.Bool.{cases_lt}
 use Rattle.ground.specs.Meanings.{Meaning}
 use Rattle.ground.specs.Questions.{arcs_from}
 use Rattle.terms.specs.Amounts.{far, ◌⊕◌}
 use Rattle.method.specs.Calls.{capped_sum, cheapest, follow, onward}
-use Rattle.method.proofs.Members.{Member}
 use Rattle.method.proofs.Offers.{left_by}
 use Rattle.method.proofs.Bests.{best_member}
 use Rattle.plan.proofs.Totals.{capped_assoc, capped_zero, sum_start}

@@ -1,11 +1,9 @@
 -- Tables that agree on the ground's arcs and places. Assumes nothing.
-use Rattle.std.proofs.Common.{◌≡◌, ℕ, ◌+◌, ◌-◌, ◌<◌, ◌≤◌, List, ◌++◌, length, get_or, take, drop, sym, refl, ap, ◌∙◌, ap₂, inl, inr, arith, length-append, length-take}
+use Rattle.std.proofs.Common.{◌≡◌, ℕ, ◌-◌, ◌<◌, ◌≤◌, List, ◌++◌, length, get_or, take, drop, sym, refl, ap, ◌∙◌, ap₂, arith, length-append, length-take}
 use borrow.Rule.Slice.PartMut.{post_of}
 use Rattle.std.proofs.lemmas.List.{get_or_append_left, get_or-take, drop_at}
-use Rattle.std.proofs.lemmas.Bool.{cases_eq, cases_lt}
-use Rattle.terms.specs.Amounts.{far, ◌⊕◌}
+use Rattle.terms.specs.Amounts.{◌⊕◌}
 use Rattle.ground.specs.Meanings.{Meaning, Lawful}
-use Rattle.method.proofs.Offers.{rhs_far, rhs_landing, rhs_offer, Offered, rhs_from}
 use Rattle.method.specs.States.{State}
 use Rattle.method.specs.Values.{offer, rhs}
 use Rattle.queue.specs.declared.entry.Entry.{Entry}

@@ -1,6 +1,6 @@
 -- What Route answers. Assumes nothing.
-use Rattle.std.proofs.Common.{◌≡◌, ℕ, ◌-◌, ◌<◌, ◌≤◌, Bool, true, false, cond, ◌&&◌, eqb, ltb, leb, List, [], ◌∷◌, length, get_or, take, drop, Some, None, Ok, Err, Option, Result, sym, refl, ap, ◌∙◌, subst, arith}
-use Rattle.std.proofs.lemmas.Bool.{and_from, and_right, cond-true, cond-false, le-leb, lt-leb, lt-ltb}
+use Rattle.std.proofs.Common.{◌≡◌, ℕ, ◌-◌, ◌<◌, ◌≤◌, Bool, true, false, cond, ◌&&◌, eqb, List, [], ◌∷◌, length, get_or, take, drop, Some, None, Ok, Err, Option, Result, sym, refl, ap, ◌∙◌, subst, arith}
+use Rattle.std.proofs.lemmas.Bool.{cond-true, cond-false, le-leb, lt-leb, lt-ltb}
 use Rattle.terms.specs.Amounts.{far}
 use Rattle.terms.specs.declared.refusal.Refusal.{Refusal}
 use Rattle.terms.specs.declared.refusal.Refusal.TheVariants.{ListShort, NoWay, NotSettled}
@@ -12,7 +12,7 @@ use Rattle.plan.specs.declared.phase.Phase.{Phase}
 use Rattle.plan.specs.declared.phase.Phase.TheVariants.{Changed, UnderWay, Settled}
 use Rattle.queue.specs.declared.entry.Entry.{Entry}
 use Rattle.queue.specs.declared.key.Key.{Key}
-use Rattle.search.specs.Tables.{Shows, Sized, nowhere, place_at, told}
+use Rattle.search.specs.Tables.{Shows, place_at, told}
 use Rattle.search.specs.declared.place.Place.{Place}
 use Rattle.plan.specs.Courses.{course_of}
 use Rattle.plan.specs.Declines.{not_settled, or_else, route_declines}
@@ -24,7 +24,7 @@ use Rattle.plan.specs.declared.course.Kind.TheVariants.{Route}
 use Rattle.plan.specs.declared.header.Header.{Header}
 use Rattle.plan.proofs.Admitting.{BegunOn, not_turned_away, standing_at, unless_accepts, unless_refuses}
 use Rattle.plan.proofs.Asking.{capped_same, follow_in, follow_same}
-use Rattle.plan.proofs.Fronting.{part_at, part_same, part_size, same_shows}
+use Rattle.plan.proofs.Fronting.{part_same, part_size, same_shows}
 
 -- a route can be had only of a settled plan
 pub route_course_lem : (phase : Phase) (c : Course) → ◌≡◌ {A = Result Course Refusal} (Ok c) (course_of phase Route) → is_settled (stage_of phase) ≡ true

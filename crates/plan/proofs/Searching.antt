@@ -1,8 +1,7 @@
 -- What Search answers and leaves. Assumes nothing.
-use Rattle.std.proofs.Common.{◌≡◌, ℕ, ◌+◌, ◌-◌, ◌*◌, ◌<◌, ◌≤◌, Bool, true, false, cond, List, [], ◌∷◌, ◌++◌, length, get_or, take, drop, Some, None, Ok, Err, Option, Result, sym, refl, ap, ◌∙◌, subst, arith, length-append}
+use Rattle.std.proofs.Common.{◌≡◌, ℕ, ◌+◌, ◌-◌, ◌*◌, ◌≤◌, Bool, true, false, cond, List, [], ◌∷◌, ◌++◌, length, take, drop, Some, None, Ok, Option, Result, sym, refl, ap, ◌∙◌, subst, arith}
 use borrow.Rule.Slice.PartMut.{post_of}
 use Rattle.std.proofs.lemmas.List.{take_at}
-use Rattle.terms.specs.Amounts.{far, ◌⊕◌}
 use Rattle.terms.specs.declared.refusal.Refusal.{Refusal}
 use Rattle.ground.specs.Meanings.{Meaning, Lawful}
 use Rattle.method.specs.Calls.{cuts, emptied, in_phase, outcome, search_for, searched, settles, start, verdict, Answer as Said}
@@ -14,7 +13,7 @@ use Rattle.plan.specs.declared.phase.Phase.TheVariants.{Changed, UnderWay, Settl
 use Rattle.queue.specs.declared.entry.Entry.{Entry}
 use Rattle.queue.specs.declared.key.Key.{Key}
 use Rattle.search.specs.Queued.{Synced}
-use Rattle.search.specs.Steps.{InStep, SearchMade}
+use Rattle.search.specs.Steps.{SearchMade}
 use Rattle.search.specs.Tables.{Cached, Shows, Sized, nowhere}
 use Rattle.search.specs.declared.place.Place.{Place}
 use Rattle.search.specs.declared.run.Made.{Made}

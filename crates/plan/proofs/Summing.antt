@@ -1,20 +1,16 @@
 -- What Sum answers. Assumes nothing.
-use Rattle.std.proofs.Common.{◌≡◌, ℕ, ◌-◌, ◌*◌, ◌<◌, ◌≤◌, Bool, true, false, cond, ◌||◌, ltb, List, [], ◌∷◌, length, get_or, take, drop, Some, None, Ok, Err, Option, Result, sym, refl, ap, ◌∙◌, subst, arith, length-take}
-use Rattle.std.proofs.lemmas.List.{get_or-take}
+use Rattle.std.proofs.Common.{◌≡◌, ℕ, ◌<◌, Bool, true, false, cond, ltb, List, [], ◌∷◌, length, get_or, Some, None, Ok, Err, Option, Result, sym, refl, ap, ◌∙◌, subst, arith}
 use Rattle.terms.specs.declared.refusal.Refusal.{Refusal}
 use Rattle.terms.specs.declared.refusal.Refusal.TheVariants.{NoSuchArc, TableShort}
 use Rattle.ground.specs.Meanings.{Meaning}
-use Rattle.method.specs.Calls.{capped_sum, outcome, refuses, start, sum_over, sums, sum_refusal}
+use Rattle.method.specs.Calls.{capped_sum, outcome, refuses, sum_over, sums, sum_refusal}
 use Rattle.method.specs.Handed.{is_short}
 use Rattle.method.specs.States.{State}
 use Rattle.method.specs.Turns.{all_of}
-use Rattle.plan.specs.Answers.{heard, refusal_in}
 use Rattle.plan.specs.Declines.{no_such_arc, or_else, sum_declines}
-use Rattle.plan.specs.Stands.{CarriesOut, HeldBy, Holds, Stand}
-use Rattle.plan.specs.declared.answer.Answer.{Answer}
-use Rattle.plan.specs.declared.answer.Answer.TheVariants.{Sum}
+use Rattle.plan.specs.Stands.{HeldBy, Holds, Stand}
 use Rattle.plan.specs.declared.header.Header.{Header}
-use Rattle.plan.proofs.Admitting.{one_header, unless_accepts, unless_refuses}
+use Rattle.plan.proofs.Admitting.{unless_accepts, unless_refuses}
 use Rattle.plan.proofs.Asking.{capped_same}
 
 -- what adding up the arcs over a front of the costs comes to

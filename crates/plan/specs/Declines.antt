@@ -1,9 +1,9 @@
 -- Which refusal each call answers, for any ground and any tables. Assumes nothing.
-use Rattle.std.specs.Prelude.{ℕ, Bool, cond, ◌&&◌, ltb, List, [], ◌∷◌, Some, None, Ok, Err, Option, Result, nat_lt}
+use Rattle.std.specs.Prelude.{ℕ, cond, ltb, List, [], ◌∷◌, Some, None, Ok, Err, Option, Result, nat_lt}
 use Rattle.terms.specs.declared.refusal.Refusal.{Refusal}
 use Rattle.terms.specs.declared.refusal.Refusal.TheVariants.{NotBegun, OtherGround, NoSuchPlace, NotSettled, NoSuchArc}
 use Rattle.ground.specs.Meanings.{Meaning}
-use Rattle.method.specs.Calls.{set_cost, move_to, stretch_to, search_for, route_into, sum_over, set_refusal, stretch_refusal}
+use Rattle.method.specs.Calls.{set_cost, search_for, route_into, sum_over, set_refusal, stretch_refusal}
 use Rattle.method.specs.Handed.{Size, same_size, turned_away_by, begin_refusal}
 use Rattle.method.specs.Pasts.{Begin}
 use Rattle.method.specs.States.{is_settled}

@@ -1,5 +1,5 @@
 -- All that a plan is kept in, and the state that it holds. Assumes nothing.
-use Rattle.std.specs.Prelude.{◌≡◌, ℕ, ◌*◌, ◌≤◌, Bool, false, List, [], length, take, drop, Some, None, Ok, Err, Option, Result}
+use Rattle.std.specs.Prelude.{◌≡◌, ℕ, ◌*◌, ◌≤◌, false, List, length, take, drop, Some, Ok, Err, Option, Result}
 use Rattle.terms.specs.declared.refusal.Refusal.{Refusal}
 use Rattle.ground.specs.Meanings.{Meaning}
 use Rattle.method.specs.States.{State, is_changed}

@@ -1,13 +1,13 @@
 -- Finding a number, or room, in a table.
-use Rattle.std.proofs.Common.{◌≡◌, ℕ, zero, suc, ◌+◌, ◌-◌, ◌%◌, ◌<◌, ◌≤◌, Bool, true, false, cond, ◌≢◌, ◌⊎◌, List, [], ◌∷◌, map, length, get_or, set, is_some, Some, None, Option, sym, refl, ap, ◌∙◌, subst, inl, inr, arith, below_more}
+use Rattle.std.proofs.Common.{◌≡◌, ℕ, ◌+◌, ◌%◌, ◌<◌, ◌≤◌, Bool, true, false, List, length, get_or, set, is_some, Some, None, Option, sym, ap, ◌∙◌, subst, inl, inr, arith, below_more}
 use Rattle.std.proofs.lemmas.List.{get_or-map, get_or_past, length-map, map-set, get_or-set_same, get_or-set_other}
 use Rattle.std.proofs.lemmas.Bool.{cases_Bool, cases_eq, cases_lt, both_ways, cond-false, cond-true}
 use Rattle.queue.specs.declared.entry.Entry.{Entry}
-use Rattle.queue.specs.Content.{item_of, items, held, count_in}
-use Rattle.queue.specs.Sound.{under, free_or, Absent, Distinct, OnlyAt, Homed, Found, Room, Scanned, Chosen, Marked}
-use Rattle.queue.specs.Tree.{strays, winners}
+use Rattle.queue.specs.Content.{item_of, items, held}
+use Rattle.queue.specs.Sound.{under, free_or, Absent, Homed, Found, Room, Scanned, Chosen, Marked}
+use Rattle.queue.specs.Tree.{strays}
 use Rattle.queue.proofs.Contests.{item_read, length_items}
-use Rattle.queue.proofs.Contents.{under_some, some_under, other_under, none_under, count_full}
+use Rattle.queue.proofs.Contents.{under_some, other_under, none_under, count_full}
 use Rattle.queue.proofs.Walks.{blind}
 
 module _ {K : Type 0} (es : List (Entry K)) where

@@ -1,5 +1,5 @@
 -- There is room for a number below the table's length that is absent, where all held numbers are below it.
-use Rattle.std.proofs.Common.{◌≡◌, ℕ, zero, suc, ◌+◌, ◌-◌, ◌<◌, ◌≤◌, Bool, true, false, cond, eqb, ◌⊎◌, List, length, get_or, Some, None, Option, sym, refl, ap, ◌∙◌, subst, inl, inr, arith}
+use Rattle.std.proofs.Common.{◌≡◌, ℕ, zero, suc, ◌<◌, Bool, true, cond, eqb, ◌⊎◌, List, length, get_or, Some, None, Option, sym, ap, ◌∙◌, subst, inl, inr, arith}
 use Rattle.queue.specs.declared.entry.Entry.{Entry}
 use Rattle.queue.specs.Calls.{Low}
 use Rattle.queue.specs.Content.{items, key_of, held}

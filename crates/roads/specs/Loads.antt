@@ -1,5 +1,5 @@
 -- When Load accepts tables, and why it declines them. Assumes nothing.
-use Rattle.std.specs.Prelude.{◌≡◌, ℕ, ◌<◌, ◌≤◌, List, length, get_or, Some, None, Ok, Err, Option, Result}
+use Rattle.std.specs.Prelude.{◌≡◌, ℕ, ◌<◌, ◌≤◌, List, length, Some, None, Ok, Err, Option, Result}
 use Rattle.arcs.specs.Index.{SameFrom}
 use Rattle.arcs.specs.Tables.{AllLawful, LowestUnlawful}
 use Rattle.roads.specs.Heights.{height_of, LowHeights, StepAt, Steps}

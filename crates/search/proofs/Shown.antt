@@ -1,20 +1,16 @@
 -- What tables that show a state say of its places. Assumes nothing.
-use Rattle.std.proofs.Common.{◌≡◌, ℕ, ◌<◌, true, cond, not, eqb, List, [], ◌∷◌, map, sym, refl, ap, ◌∙◌, inl, inr}
+use Rattle.std.proofs.Common.{◌≡◌, ℕ, ◌<◌, true, not, eqb, List, sym, ◌∙◌}
 use Rattle.std.proofs.lemmas.Bool.{and_parts, and_from, not-true, not_from_false, eqb-false, ne_eqb}
-use Rattle.terms.specs.Amounts.{◌⊕◌}
 use Rattle.ground.specs.Meanings.{Meaning, Lawful}
-use Rattle.ground.specs.Questions.{arcs_from}
 use Rattle.method.specs.States.{State}
-use Rattle.method.specs.Values.{rhs, offer, smallest}
+use Rattle.method.specs.Values.{rhs}
 use Rattle.method.specs.Keys.{key}
 use Rattle.method.specs.Laws.{Waits}
-use Rattle.method.proofs.Members.{Member}
-use Rattle.method.proofs.Offers.{left_by}
 use Rattle.search.proofs.Agreeing.{shown_rhs}
 use Rattle.search.specs.declared.aim.Aim.{Aim}
 use Rattle.search.specs.declared.place.Place.{Place}
 use Rattle.search.specs.Queued.{is_waiting, key_for}
-use Rattle.search.specs.Tables.{place_at, told, Shows, Cached}
+use Rattle.search.specs.Tables.{place_at, Shows, Cached}
 
 module _ (m : Meaning) (law : Lawful m) (aim : Aim) (costs : List ℕ) (places : List Place) (s : State) (sh : Shows m s aim costs places) where
   module _ (cached : Cached m aim costs places) where

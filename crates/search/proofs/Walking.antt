@@ -1,5 +1,5 @@
 -- A walk over a list by the numbers of its elements. Assumes nothing.
-use Rattle.std.proofs.Common.{◌≡◌, ℕ, zero, suc, ◌+◌, ◌<◌, ◌≤◌, min, Bool, ltb, List, [], ◌∷◌, map, length, drop, Some, None, Option, sym, refl, ap, ◌∙◌, inl, inr, arith}
+use Rattle.std.proofs.Common.{◌≡◌, ℕ, zero, suc, ◌+◌, ◌<◌, ◌≤◌, min, Bool, ltb, List, [], ◌∷◌, map, drop, Some, None, Option, sym, refl, ap, ◌∙◌, inl, inr, arith}
 use Rattle.ground.proofs.Walks.{drop_at}
 use Rattle.ground.specs.KnownLaws.{not_both}
 use Rattle.method.specs.Choices.{best, better}

@@ -1,12 +1,12 @@
 -- The pass that checks a sheet, one line at a time. Assumes nothing.
-use Rattle.std.proofs.Common.{◌≡◌, ℕ, ◌+◌, ◌≤◌, List, [], ◌∷◌, length, drop, Some, None, Ok, Err, Option, Result, sym, refl, ap, ◌∙◌, arith}
+use Rattle.std.proofs.Common.{◌≡◌, ℕ, ◌+◌, List, [], ◌∷◌, length, drop, Some, Ok, Err, refl, ap, arith}
 use Rattle.terms.specs.declared.arc.Arc.{Arc}
 use Rattle.terms.specs.declared.fault.LineFault.{LineFault}
 use Rattle.terms.specs.declared.fault.SheetFault.{SheetFault}
 use Rattle.sheet.specs.declared.columns.Columns.{Columns}
 use Rattle.sheet.specs.Columns.{columns_of}
-use Rattle.sheet.specs.Sheets.{row_of, rows_of, arcs_of, arcs_under, in_line, and_these}
-use Rattle.sheet.specs.Passes.{readable, or_skip}
+use Rattle.sheet.specs.Sheets.{row_of, rows_of, arcs_of, and_these}
+use Rattle.sheet.specs.Passes.{readable}
 
 -- k lines are read, the first of them the line of names; what the lines left say is what the sheet says
 pub record Reading (lines : List (List ℕ)) (order : Columns) (k : ℕ) (left : List (List ℕ)) : Type 0 where

@@ -1,5 +1,5 @@
 -- How far a sheet reaches. Assumes nothing.
-use Rattle.std.proofs.Common.{◌≡◌, ℕ, ◌+◌, ◌≤◌, cond, eqb, List, [], ◌∷◌, length, refl, arith}
+use Rattle.std.proofs.Common.{ℕ, ◌+◌, ◌≤◌, eqb, List, [], ◌∷◌, length, arith}
 use Rattle.std.proofs.lemmas.Bool.{cond_both}
 use Rattle.text.specs.Pieces.{onto, lines_of}
 use Rattle.sheet.specs.Sheets.{filled, span, sheet_lines}

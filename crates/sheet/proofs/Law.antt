@@ -1,5 +1,5 @@
 -- Arcs written out as a sheet are read back. Assumes nothing.
-use Rattle.std.proofs.Common.{◌≡◌, ℕ, ◌+◌, ◌-◌, ◌<◌, ◌≤◌, min, Bool, true, false, cond, ltb, List, [], ◌∷◌, ◌++◌, map, length, take, IfOk, Some, None, Ok, Err, decimal, Result, sym, refl, ap, ◌∙◌, subst, append_assoc, arith, length-append, length-take}
+use Rattle.std.proofs.Common.{◌≡◌, ℕ, ◌+◌, ◌-◌, ◌<◌, ◌≤◌, Bool, true, false, cond, ltb, List, [], ◌∷◌, ◌++◌, map, length, take, IfOk, Some, Ok, Err, decimal, Result, sym, refl, ap, ◌∙◌, subst, append_assoc, arith, length-append, length-take}
 use lib.ListN.{length-map}
 use Rattle.std.specs.List.{flat_map, AllByRecursion as All}
 use Rattle.terms.specs.Amounts.{far}
@@ -8,7 +8,6 @@ use Rattle.terms.specs.declared.fault.SheetFault.{SheetFault}
 use Rattle.terms.specs.declared.refusal.Refusal.{Refusal}
 use Rattle.terms.specs.declared.refusal.Refusal.TheVariants.{TableShort}
 use Rattle.text.specs.Pieces.{lines_of, fields_of}
-use Rattle.text.specs.Numbers.{number_of}
 use Rattle.std.proofs.lemmas.Fmt.{decimal_nonempty}
 use Rattle.std.proofs.lemmas.Bool.{ltb-false}
 use Rattle.text.proofs.Back.{Without, without_append, without_from_lacks, piece_back, field_back, decimal_without, number_back}
@@ -16,7 +15,7 @@ use Rattle.sheet.specs.declared.columns.Columns.{Columns}
 use Rattle.sheet.specs.declared.columns.Columns.TheVariants.{FromToLeast, FromLeastTo, ToFromLeast, ToLeastFrom, LeastFromTo, LeastToFrom}
 use Rattle.sheet.specs.declared.read.Sheet.{Sheet}
 use Rattle.sheet.specs.Columns.{name_line, columns_of, arc_of}
-use Rattle.sheet.specs.Sheets.{row_of, rows_of, arcs_of, arcs_under, in_line, and_these, in_field, arc_in, filled, span, sheet_lines, sheet_of, answered, table_after, end_of, over}
+use Rattle.sheet.specs.Sheets.{row_of, rows_of, arcs_of, arcs_under, in_line, and_these, arc_in, filled, span, sheet_lines, sheet_of, answered, table_after, end_of}
 use Rattle.sheet.specs.Typed.{line_of, typed_arc, typed_sheet, Typable, Stops, ReadsBack}
 use Rattle.sheet.proofs.Whole.{arcs_count, accepted}
 use Rattle.sheet.proofs.Fills.{room_for_all}

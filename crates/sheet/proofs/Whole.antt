@@ -1,5 +1,5 @@
 -- A sheet as a whole: what each way through `read` answers. Assumes nothing.
-use Rattle.std.proofs.Common.{◌≡◌, ℕ, ◌+◌, ◌-◌, ◌<◌, ◌≤◌, cond, ltb, List, [], ◌∷◌, length, drop, Some, None, Ok, Err, Option, Result, sym, refl, ap, ◌∙◌, arith}
+use Rattle.std.proofs.Common.{◌≡◌, ℕ, ◌+◌, ◌-◌, ◌<◌, ◌≤◌, List, [], ◌∷◌, length, Some, None, Ok, Err, Option, Result, sym, refl, ap, ◌∙◌, arith}
 use Rattle.std.proofs.lemmas.Bool.{cond-true, cond-false, lt-ltb, le-ltb}
 use Rattle.terms.specs.declared.arc.Arc.{Arc}
 use Rattle.terms.specs.declared.fault.LineFault.{LineFault}
@@ -8,7 +8,7 @@ use Rattle.terms.specs.declared.refusal.Refusal.TheVariants.{TableShort, Sheet a
 use Rattle.sheet.specs.declared.columns.Columns.{Columns}
 use Rattle.sheet.specs.Columns.{columns_of}
 use Rattle.sheet.specs.Sheets.{row_of, rows_of, arcs_of, arcs_under, in_line, and_these, sheet_lines, sheet_of, answered, end_of, table_after, filled_by}
-use Rattle.sheet.specs.Passes.{readable, written}
+use Rattle.sheet.specs.Passes.{written}
 use Rattle.sheet.proofs.Fills.{room_for_all}
 
 -- a sheet without fault names as many arcs as it has lines of values

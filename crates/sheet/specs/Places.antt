@@ -1,5 +1,5 @@
 -- How many places arcs speak of. Assumes nothing.
-use Rattle.std.specs.Prelude.{ℕ, ◌+◌, max, List, [], ◌∷◌, fold}
+use Rattle.std.specs.Prelude.{ℕ, ◌+◌, max, List, fold}
 use Rattle.terms.specs.declared.arc.Arc.{Arc}
 
 -- the places so far, or more where an end of the arc is past them

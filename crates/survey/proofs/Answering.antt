@@ -1,5 +1,5 @@
 -- What Survey answers, once it has measured in the front of its tables.
-use Rattle.std.proofs.Common.{◌≡◌, ℕ, ◌-◌, ◌<◌, ◌≤◌, List, ◌++◌, length, get_or, take, drop, replicate, Ok, Err, Result, sym, refl, ap, ◌∙◌, subst, arith, take-append-drop}
+use Rattle.std.proofs.Common.{◌≡◌, ℕ, ◌-◌, ◌<◌, List, ◌++◌, length, get_or, take, drop, replicate, Ok, Err, Result, sym, ap, ◌∙◌, subst, arith, take-append-drop}
 use borrow.Rule.Slice.PartMut.{post_of}
 use Rattle.arcs.proofs.Fronts.{front_below, front_beyond}
 use Rattle.arcs.specs.Tables.{AllLawful, arc_at}

@@ -1,5 +1,5 @@
 -- Chains that grow by an arc, and what they sum to.
-use Rattle.std.proofs.Common.{◌≡◌, ℕ, ◌+◌, ◌<◌, ◌≤◌, List, [], ◌∷◌, ◌++◌, sym, refl, ap, ◌∙◌, subst, arith}
+use Rattle.std.proofs.Common.{◌≡◌, ℕ, ◌+◌, ◌<◌, ◌≤◌, List, [], ◌∷◌, ◌++◌, sym, refl, ap, arith}
 use Rattle.ground.specs.Chains.{Chain, sum_of}
 use Rattle.ground.specs.Meanings.{Meaning}
 

@@ -1,5 +1,5 @@
 -- From sums to heights.
-use Rattle.std.proofs.Common.{◌≡◌, ℕ, ◌<◌, ◌≤◌, List, length, get_or, Ok, Err, Result, sym, refl, ap, ◌∙◌, subst, arith}
+use Rattle.std.proofs.Common.{◌≡◌, ℕ, List, length, get_or, Ok, Err, Result, sym, ap, subst, arith}
 use Rattle.arcs.specs.Tables.{AllLawful, arc_at}
 use Rattle.roads.specs.Heights.{LowHeights, Steps}
 use Rattle.survey.specs.Sums.{flat, LeastSum, Surveyed}

@@ -1,18 +1,18 @@
 -- How a survey begins, takes up a place, and ends.
-use Rattle.std.proofs.Common.{◌≡◌, ℕ, zero, suc, ◌+◌, ◌*◌, ◌<◌, ◌≤◌, eqb, ltb, leb, ◌⊎◌, List, [], ◌∷◌, length, get_or, drop, set, Some, None, sym, refl, ap, ◌∙◌, subst, inl, inr, arith, length-set, get_or-set_other, get_or-set_same}
+use Rattle.std.proofs.Common.{◌≡◌, ℕ, zero, suc, ◌+◌, ◌*◌, ◌<◌, ◌≤◌, ltb, leb, List, [], ◌∷◌, length, get_or, set, Some, None, sym, refl, ap, ◌∙◌, inl, inr, arith, length-set, get_or-set_other, get_or-set_same}
 use Rattle.ground.proofs.ArcsAt.{arcs_at-has}
 use Rattle.ground.specs.Chains.{Chain, sum_of}
 use Rattle.ground.specs.KnownLaws.{not_both}
 use Rattle.ground.specs.Meanings.{Meaning}
 use Rattle.ground.specs.Questions.{arcs_at}
 use Rattle.queue.specs.Calls.{Empty, Freed, Leads, TakenIn}
-use Rattle.queue.specs.Content.{key_of, held}
+use Rattle.queue.specs.Content.{key_of}
 use Rattle.queue.specs.declared.entry.Entry.{Entry}
 use Rattle.std.proofs.lemmas.List.Sums.{count_by-le-length}
 use Rattle.std.proofs.lemmas.Bool.{cases_eq, cases_lt}
 use Rattle.std.specs.List.{slice_get}
-use Rattle.survey.specs.Labels.{In, Labelled, Onward, reached, weight}
-use Rattle.survey.specs.Sums.{LeastSum, Surveyed}
+use Rattle.survey.specs.Labels.{In, Labelled, reached}
+use Rattle.survey.specs.Sums.{Surveyed}
 use Rattle.survey.proofs.Chaining.{chain_falls}
 use Rattle.survey.proofs.Relaxing.{changed_same, changed_other, reached_new}
 use Rattle.terms.specs.Amounts.{far}

@@ -1,8 +1,7 @@
 -- What Survey answers, and what it leaves of the tables. Assumes nothing.
-use Rattle.std.specs.Prelude.{◌≡◌, ℕ, ◌<◌, ◌≤◌, List, length, Ok, Err, Result, slice_index, slice_index_or}
+use Rattle.std.specs.Prelude.{◌≡◌, ℕ, ◌<◌, ◌≤◌, List, Ok, Err, Result, slice_index, slice_index_or}
 use Rattle.arcs.specs.Index.{SameFrom}
 use Rattle.queue.specs.Content.{free_entry}
-use Rattle.queue.specs.declared.entry.Entry.{Entry}
 use Rattle.survey.specs.Sums.{flat, LeastSum}
 use Rattle.survey.specs.Surveys.{Columns, Declined, LowestApart, Ready}
 use Rattle.terms.specs.declared.arc.Arc.{Arc}

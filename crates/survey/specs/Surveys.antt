@@ -1,7 +1,6 @@
 -- When Survey measures, and what it answers. Assumes nothing.
 use Rattle.std.specs.Prelude.{◌≡◌, ℕ, ◌<◌, ◌≤◌, List, length, Ok, Err, Result, slice_index}
 use Rattle.arcs.specs.Tables.{AllLawful, LowestUnlawful}
-use Rattle.queue.specs.Content.{free_entry}
 use Rattle.queue.specs.declared.entry.Entry.{Entry}
 use Rattle.survey.specs.Sums.{flat, Apart, LeastSum}
 use Rattle.terms.specs.Amounts.{far}

@@ -1,8 +1,8 @@
 -- How a text is cut, one piece at a time. Assumes nothing.
-use Rattle.std.proofs.Common.{◌≡◌, ℕ, suc, ◌+◌, ◌-◌, ◌<◌, ◌≤◌, min, Bool, true, false, cond, eqb, ◌⊎◌, List, [], ◌∷◌, length, get_or, take, drop, Some, None, Option, sym, refl, ap, ◌∙◌, inl, inr, suc-add, arith}
+use Rattle.std.proofs.Common.{◌≡◌, ℕ, suc, ◌+◌, ◌-◌, ◌<◌, ◌≤◌, min, false, eqb, ◌⊎◌, List, [], ◌∷◌, length, get_or, take, drop, sym, refl, ap, ◌∙◌, inl, inr, suc-add, arith}
 use Rattle.std.proofs.lemmas.List.{at_drop_more, drop_all, take_all, take_rest}
 use Rattle.std.proofs.lemmas.Bool.{cases_Bool, cases_lt, cond_both, cond-true, cond-false, eq-eqb, ne_eqb}
-use Rattle.text.specs.Pieces.{onto, pieces, lines_of, fields_of, fields_left, before}
+use Rattle.text.specs.Pieces.{onto, pieces, lines_of, fields_of, before}
 
 pub before_le : (stop : ℕ) (bs : List ℕ) → before stop bs ≤ length bs
 before_le stop [] = omega arith

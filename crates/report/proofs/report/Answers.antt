@@ -1,4 +1,4 @@
-use Rattle.std.proofs.Common.{◌≡◌, ◌-◌, take, sym, ap, arith}
+use Rattle.std.proofs.Common.{◌≡◌, ◌-◌, take, ap, arith}
 use Rattle.report.proofs.Lines.{told_arcs, told_refusal}
 use Rattle.report.proofs.report.Goals as goal
 

@@ -1,7 +1,7 @@
-use Rattle.std.proofs.Common.{◌≡◌, ℕ, ◌≤◌, length, sym, ap, ◌∙◌, subst, arith, rules}
+use Rattle.std.proofs.Common.{◌≡◌, ℕ, length, subst, arith, rules}
 use Rattle.arcs.specs.Index.{Indexed}
 use Rattle.arcs.specs.Tables.{AllLawful, end_at}
-use Rattle.arcs.proofs.Fronts.{front_below, front_beyond, front_indexed, part_size}
+use Rattle.arcs.proofs.Fronts.{front_beyond, front_indexed, part_size}
 use Rattle.arcs.proofs.index.index.Goals as goal
 
 pub returns : goal.returns

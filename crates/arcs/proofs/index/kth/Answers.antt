@@ -1,4 +1,4 @@
-use Rattle.std.proofs.Common.{◌+◌, ◌<◌, length, sym, ap, inl, inr, arith}
+use Rattle.std.proofs.Common.{◌+◌, ◌<◌, sym, ap, inl, inr, arith}
 use Rattle.std.specs.List.{slice_get}
 use Rattle.arcs.proofs.Groups.{beyond_none, kth_there, kth_past, group_room}
 use Rattle.arcs.proofs.index.kth.Goals as goal

@@ -1,4 +1,4 @@
-use Rattle.std.proofs.Common.{◌≡◌, ℕ, suc, ◌+◌, ◌-◌, length, sym, refl, ap, ◌∙◌, arith}
+use Rattle.std.proofs.Common.{◌≡◌, ◌+◌, ◌-◌, length, sym, ap, arith}
 use Rattle.method.specs.Calls.{follow}
 use Rattle.search.specs.Tables.{told}
 use Rattle.plan.proofs.Following.{follow_step, follow_end, follow_none}

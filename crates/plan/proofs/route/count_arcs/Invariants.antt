@@ -1,4 +1,4 @@
-use Rattle.std.proofs.Common.{◌≡◌, ℕ, ◌+◌, ◌-◌, length}
+use Rattle.std.proofs.Common.{◌≡◌, ◌+◌, ◌-◌, length}
 use Rattle.method.specs.Calls.{follow}
 use Rattle.search.specs.Tables.{told}
 use Rattle.plan.proofs.route.count_arcs.Given as goal

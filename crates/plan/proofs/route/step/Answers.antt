@@ -1,8 +1,7 @@
-use Rattle.std.proofs.Common.{◌≡◌, ℕ, ◌<◌, cond, eqb, ltb, IfSome, Some, None, Option, sym, refl, ap, ◌∙◌, subst, arith}
+use Rattle.std.proofs.Common.{ℕ, ◌<◌, ltb, IfSome, Some, Option, sym, ap, ◌∙◌, subst}
 use Rattle.std.proofs.lemmas.Bool.{cond-false, ne_eqb, ltb-true, both_ways, lt-ltb}
-use Rattle.ground.proofs.ArcsAt.{arcs_at-at}
 use Rattle.ground.specs.KnownLaws.{known_some, known_none}
-use Rattle.plan.specs.Routes.{step_from, with_head}
+use Rattle.plan.specs.Routes.{with_head}
 use Rattle.plan.proofs.Following.{best_in}
 use Rattle.plan.proofs.route.step.Goals as goal
 

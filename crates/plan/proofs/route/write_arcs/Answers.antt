@@ -1,5 +1,5 @@
-use Rattle.std.proofs.Common.{◌≡◌, ℕ, ◌+◌, ◌-◌, length, set, sym, refl, ap, ◌∙◌, arith}
-use Rattle.plan.proofs.Following.{WrittenTo, written_none, written_more, written_short, written_all}
+use Rattle.std.proofs.Common.{sym, arith}
+use Rattle.plan.proofs.Following.{written_none, written_more, written_short, written_all}
 use Rattle.plan.proofs.route.write_arcs.Goals as goal
 
 pub loop-k-init : goal.loop-k-init

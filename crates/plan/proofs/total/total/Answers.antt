@@ -1,6 +1,6 @@
-use Rattle.std.proofs.Common.{◌≡◌, ℕ, ◌+◌, ◌<◌, ◌≤◌, ltb, length, get_or, drop, Ok, Result, sym, refl, ap, ◌∙◌, arith}
+use Rattle.std.proofs.Common.{◌≡◌, ℕ, ◌+◌, ltb, length, get_or, drop, Ok, sym, refl, ap, ◌∙◌, arith}
 use Rattle.std.proofs.lemmas.Bool.{lt-ltb, le-ltb, cond-true, cond-false}
-use Rattle.terms.specs.Amounts.{far, ◌⊕◌}
+use Rattle.terms.specs.Amounts.{◌⊕◌}
 use Rattle.method.specs.Calls.{capped_sum}
 use Rattle.plan.proofs.Totals.{sum_step, sum_end, sum_start, all_step, all_fails, all_end}
 use Rattle.plan.proofs.total.total.Goals as goal

@@ -1,4 +1,4 @@
-use Rattle.std.proofs.Common.{◌≡◌, ℕ, ◌<◌, ◌≤◌, cond, ltb, length, get_or, drop}
+use Rattle.std.proofs.Common.{◌≡◌, ◌≤◌, ltb, length, get_or, drop}
 use Rattle.terms.specs.Amounts.{◌⊕◌, far}
 use Rattle.method.specs.Calls.{capped_sum}
 use Rattle.method.specs.Turns.{all_of}

@@ -1,6 +1,6 @@
-use Rattle.std.proofs.Common.{◌≡◌, [], ◌∷◌, drop, sym, ap, ◌∙◌, subst}
+use Rattle.std.proofs.Common.{◌≡◌, drop, sym, ap, ◌∙◌, subst}
 use Rattle.sheet.specs.Sheets.{sheet_lines}
-use Rattle.sheet.specs.Passes.{readable, written}
+use Rattle.sheet.specs.Passes.{readable}
 use Rattle.sheet.proofs.Fills.{Filling, arc_first, none_yet, one_more, full, filled_all}
 use Rattle.sheet.proofs.fill.fill.Goals as goal
 

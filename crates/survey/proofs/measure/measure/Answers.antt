@@ -1,4 +1,4 @@
-use Rattle.std.proofs.Common.{◌≡◌, length, replicate, Ok, Result, sym, ap, ◌∙◌, subst, arith, rules}
+use Rattle.std.proofs.Common.{◌≡◌, length, replicate, Result, ap, ◌∙◌, subst, arith, rules}
 use Rattle.queue.specs.Content.{free_entry}
 use Rattle.survey.specs.Surveys.{HandedOver}
 use Rattle.survey.proofs.Measuring.{measured, measured_low, measured_steps}

@@ -1,4 +1,4 @@
-use Rattle.std.proofs.Common.{◌≡◌, ◌+◌, ◌<◌, leb, length, get_or, Result, refl, subst, arith}
+use Rattle.std.proofs.Common.{◌+◌, leb, length, get_or, Result, refl, subst, arith}
 use Rattle.arcs.specs.Tables.{arc_at}
 use Rattle.queue.specs.Calls.{PutDone}
 use Rattle.terms.specs.declared.refusal.Refusal.{Refusal}

@@ -1,11 +1,9 @@
-use Rattle.std.proofs.Common.{◌≡◌, ℕ, ◌+◌, ◌<◌, ◌≤◌, List, [], ◌∷◌, length, get_or, drop, Some, None, sym, refl, ap, ◌∙◌, subst, arith}
-use Rattle.arcs.specs.Index.{Indexed}
-use Rattle.arcs.specs.Tables.{AllLawful, arc_at, end_at}
+use Rattle.std.proofs.Common.{◌≡◌, ℕ, ◌+◌, List, ◌∷◌, length, get_or, drop, sym, ap, subst, arith}
+use Rattle.arcs.specs.Tables.{AllLawful, end_at}
 use Rattle.arcs.specs.declared.end.End.TheVariants.{Tail}
 use Rattle.ground.proofs.ArcsAt.{arcs_at-at, arcs_at-few}
 use Rattle.ground.specs.Questions.{arcs_at}
-use Rattle.std.specs.List.{slice_get}
-use Rattle.survey.specs.Labels.{Labelled, Onward}
+use Rattle.survey.specs.Labels.{Labelled}
 use Rattle.survey.specs.Sums.{flat}
 use Rattle.ground.proofs.Walks.{drop_at, drop_past}
 use Rattle.survey.proofs.spread.settle.Goals as goal

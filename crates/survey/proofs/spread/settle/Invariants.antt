@@ -1,4 +1,4 @@
-use Rattle.std.proofs.Common.{ℕ, ◌-◌, ◌<◌, ◌≤◌, [], length, get_or, drop}
+use Rattle.std.proofs.Common.{ℕ, ◌-◌, ◌<◌, ◌≤◌, length, get_or, drop}
 use Rattle.arcs.specs.Tables.{end_at}
 use Rattle.arcs.specs.declared.end.End.TheVariants.{Tail}
 use Rattle.ground.specs.Questions.{arcs_at}

@@ -1,4 +1,4 @@
-use Rattle.std.proofs.Common.{◌≡◌, ℕ, ◌+◌, ◌<◌, ◌≤◌, leb, List, [], ◌∷◌, length, get_or, set, Result, sym, refl, ap, ◌∙◌, subst, arith, length-set, rules}
+use Rattle.std.proofs.Common.{◌≡◌, ℕ, leb, [], length, set, Result, sym, refl, subst, arith, length-set, rules}
 use Rattle.arcs.specs.Index.{Indexed}
 use Rattle.arcs.specs.Tables.{AllLawful, end_at}
 use Rattle.arcs.specs.declared.end.End.TheVariants.{Tail}

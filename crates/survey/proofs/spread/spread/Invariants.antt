@@ -1,4 +1,4 @@
-use Rattle.std.proofs.Common.{ℕ, [], length}
+use Rattle.std.proofs.Common.{[], length}
 use Rattle.survey.specs.Labels.{Labelled, weight}
 use Rattle.survey.specs.Sums.{flat}
 use Rattle.survey.proofs.spread.spread.Given as goal

@@ -1,4 +1,4 @@
-use Rattle.std.proofs.Common.{◌≡◌, ℕ, ◌-◌, ◌≤◌, List, length, take, drop, replicate, sym, refl, ap, ◌∙◌, subst, arith}
+use Rattle.std.proofs.Common.{◌≡◌, ℕ, ◌-◌, length, take, drop, replicate, refl, ap, ◌∙◌, subst, arith}
 use Rattle.arcs.proofs.Fronts.{front_beyond, part_size}
 use Rattle.queue.specs.Content.{free_entry}
 use Rattle.roads.specs.Heights.{LowHeights}

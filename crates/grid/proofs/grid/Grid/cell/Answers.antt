@@ -1,4 +1,4 @@
-use Rattle.std.proofs.Common.{refl, arith}
+use Rattle.std.proofs.Common.{refl}
 use Rattle.std.proofs.lemmas.Nat.{div_below, mod_below}
 use Rattle.grid.proofs.grid.Grid.cell.Goals as goal
 

@@ -1,4 +1,4 @@
-use Rattle.std.proofs.Common.{◌≡◌, ◌*◌, ◌<◌, sym, ap, ◌∙◌, ap₂, arith}
+use Rattle.std.proofs.Common.{◌*◌, ◌<◌, sym, ap, ◌∙◌, ap₂, arith}
 use Rattle.grid.proofs.Entering.{near, few_cells, directed}
 use Rattle.grid.proofs.grid.Grid.entered_by.Goals as goal
 use Rattle.grid.specs.Compass.{beside}

@@ -1,4 +1,4 @@
-use Rattle.std.proofs.Common.{◌≡◌, ℕ, ◌≤◌, Bool, false, [], ◌∷◌, length, sym, refl, ◌∙◌, ap₂, arith}
+use Rattle.std.proofs.Common.{◌≡◌, ℕ, ◌≤◌, false, [], ◌∷◌, length, sym, refl, ◌∙◌, ap₂, arith}
 use Rattle.method.specs.Handed.{Lent, is_short}
 use Rattle.method.specs.Pasts.{Accepted, Begin}
 use Rattle.plan.specs.Declines.{begin_with}

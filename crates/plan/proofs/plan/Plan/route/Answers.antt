@@ -1,10 +1,9 @@
-use Rattle.std.proofs.Common.{◌≡◌, ℕ, ◌-◌, Bool, true, false, List, [], ◌∷◌, length, take, drop, Ok, Err, Option, Result, sym, refl, ap, ◌∙◌, subst, inl, inr, arith}
+use Rattle.std.proofs.Common.{true, false, length, take, Ok, Err, Option, sym, refl, ◌∙◌, subst, inl, inr}
 use Rattle.std.proofs.lemmas.Result.{err_from_is_err_and}
 use Rattle.terms.specs.declared.refusal.Refusal.{Refusal}
 use Rattle.terms.specs.declared.refusal.Refusal.TheVariants.{ListShort, NoWay, NotSettled}
 use Rattle.ground.specs.Meanings.{Lawful}
 use Rattle.plan.specs.Asked.{RouteTurnedAway}
-use Rattle.plan.specs.declared.answer.Answer.{Answer}
 use Rattle.plan.specs.declared.answer.Answer.TheVariants.{Route}
 use Rattle.plan.proofs.Admitting.{begun_on_is, standing_at}
 use Rattle.plan.proofs.Altering.{held_by}

@@ -1,9 +1,8 @@
-use Rattle.std.proofs.Common.{◌≡◌, ℕ, ◌-◌, ◌≤◌, Bool, true, false, cond, ltb, List, [], length, get_or, take, drop, Ok, Err, Result, sym, refl, ap, ◌∙◌, subst, arith}
+use Rattle.std.proofs.Common.{◌≡◌, ℕ, ◌-◌, ◌≤◌, true, false, ltb, length, get_or, take, drop, Ok, Err, Result, sym, ap, ◌∙◌, arith}
 use Rattle.std.proofs.lemmas.Result.{err_from_is_err_and}
 use Rattle.std.proofs.lemmas.Bool.{ltb-false, or_parts}
 use Rattle.terms.specs.declared.refusal.Refusal.{Refusal}
-use Rattle.terms.specs.declared.refusal.Refusal.TheVariants.{NoSuchArc}
-use Rattle.method.specs.Calls.{capped_sum, refuses, sums}
+use Rattle.method.specs.Calls.{capped_sum, sums}
 use Rattle.method.specs.Turns.{all_of}
 use Rattle.plan.proofs.Admitting.{begun_is, one_header}
 use Rattle.plan.proofs.Fronting.{part_at, part_size}

@@ -1,7 +1,7 @@
-use Rattle.std.proofs.Common.{◌≡◌, ℕ, length, sym, refl, ap, subst, arith}
+use Rattle.std.proofs.Common.{sym, refl, ap, subst, arith}
 use Rattle.arcs.specs.Tables.{arc_at}
 use Rattle.roads.specs.Loads.{Accepted, Filled}
-use Rattle.roads.specs.Tables.{tables_of, SameNames}
+use Rattle.roads.specs.Tables.{tables_of}
 use Rattle.roads.specs.declared.roads.Roads.{Roads}
 use Rattle.roads.proofs.roads.Roads.fill.Goals as goal
 

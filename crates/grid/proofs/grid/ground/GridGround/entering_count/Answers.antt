@@ -1,4 +1,4 @@
-use Rattle.std.proofs.Common.{◌≡◌, ◌∙◌}
+use Rattle.std.proofs.Common.{◌∙◌}
 use Rattle.grid.proofs.Entering.{degree_into}
 use Rattle.grid.proofs.grid.ground.GridGround.entering_count.Goals as goal
 

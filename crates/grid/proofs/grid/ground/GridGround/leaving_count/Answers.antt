@@ -1,4 +1,4 @@
-use Rattle.std.proofs.Common.{◌≡◌, ◌∙◌}
+use Rattle.std.proofs.Common.{◌∙◌}
 use Rattle.grid.proofs.Entering.{degree_from}
 use Rattle.grid.proofs.grid.ground.GridGround.leaving_count.Goals as goal
 

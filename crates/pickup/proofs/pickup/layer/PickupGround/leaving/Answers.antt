@@ -1,4 +1,4 @@
-use Rattle.std.proofs.Common.{◌≡◌, ◌+◌, ◌*◌, ◌&&◌, eqb, length, Some, sym, ap, ◌∙◌, ap₂, arith}
+use Rattle.std.proofs.Common.{◌+◌, ◌*◌, ◌&&◌, eqb, Some, sym, ap, ◌∙◌, ap₂, arith}
 use Rattle.std.specs.List.{slice_get}
 use Rattle.ground.proofs.ArcsAt.{arcs_at-beyond, arcs_at-at}
 use Rattle.ground.specs.Questions.{known, arcs_from}

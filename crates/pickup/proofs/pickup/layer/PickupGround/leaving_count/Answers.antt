@@ -1,4 +1,4 @@
-use Rattle.std.proofs.Common.{◌≡◌, ◌+◌, ◌*◌, length, sym, ap, ◌∙◌, arith}
+use Rattle.std.proofs.Common.{◌+◌, ◌*◌, length, sym, ap, ◌∙◌, arith}
 use mir.Val.{bool_byte}
 use Rattle.ground.proofs.ArcsAt.{arcs_at-beyond, arcs_at-few}
 use Rattle.ground.specs.Questions.{arcs_from}
