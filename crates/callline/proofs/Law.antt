@@ -1,7 +1,7 @@
 -- A call written out as its line is read back, and what is read fits the list. Assumes nothing.
 use Rattle.std.proofs.Common.{◌≡◌, ℕ, ◌≤◌, min, ◌||◌, eqb, ltb, List, [], ◌∷◌, ◌++◌, length, IfOk, Some, None, Ok, Err, decimal, Option, Result, sym, refl, ap, ◌∙◌, subst, arith}
 use Rattle.std.specs.Option.{option_map}
-use Rattle.std.specs.List.{AllByRecursion as All}
+use Rattle.std.specs.List.{AllByRecursion}
 use Rattle.std.proofs.lemmas.List.{append-nil}
 use Rattle.std.proofs.lemmas.Bool.{cond_both, cond-false, eqb-false, ltb-false, le-ltb, or_parts}
 use Rattle.terms.specs.Amounts.{far}
@@ -15,7 +15,7 @@ use Rattle.callline.specs.WrittenOut.{spaced, line_of, Typable, ReadsBack}
 use Rattle.callline.proofs.Sums.{sum_fits}
 use Rattle.callline.proofs.Lines.{forms_by}
 
-spaced_numbers : (n : ℕ) (ns : List ℕ) → n ≤ far → All (λ m. m ≤ far) ns → numbers_in (fields_of (decimal n ++ spaced ns)) ≡ Some (n ∷ ns)
+spaced_numbers : (n : ℕ) (ns : List ℕ) → n ≤ far → AllByRecursion (λ m. m ≤ far) ns → numbers_in (fields_of (decimal n ++ spaced ns)) ≡ Some (n ∷ ns)
 spaced_numbers n [] h t =
     ap (λ bs. numbers_in (fields_of bs)) (append-nil (decimal n))
     ∙ ap numbers_in (field_back (decimal n) (decimal_without 32 n (omega arith) h))

@@ -1,6 +1,6 @@
 -- Calls written out as lines, and the law that they read back. Assumes nothing.
 use Rattle.std.specs.Prelude.{◌≡◌, ℕ, ◌≤◌, min, List, [], ◌∷◌, ◌++◌, length, Some, Ok, decimal, Result}
-use Rattle.std.specs.List.{AllByRecursion as All}
+use Rattle.std.specs.List.{AllByRecursion}
 use Rattle.terms.specs.Amounts.{far}
 use Rattle.terms.specs.declared.refusal.Refusal.{Refusal}
 use Rattle.callline.specs.declared.typed.TypedCall.{TypedCall}
@@ -29,7 +29,7 @@ Typable room (move_to place) = place ≤ far
 Typable room (stretch_to slack) = slack ≤ far
 Typable room (search_for turns) = turns ≤ 65535
 Typable room route = Unit {0}
-Typable room (sum_over arcs) = (1 ≤ length arcs) × (length arcs ≤ min 256 room) × All (λ arc. arc ≤ far) arcs
+Typable room (sum_over arcs) = (1 ≤ length arcs) × (length arcs ≤ min 256 room) × AllByRecursion (λ arc. arc ≤ far) arcs
 
 -- a call that was written out is read back as that call, its arcs at the front of the list
 abbrev pub ReadsBack : List ℕ → List ℕ → Result TypedCall Refusal → List ℕ → Type 0

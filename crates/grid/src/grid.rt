@@ -14,6 +14,6 @@ pub struct Grid {
     ghost high_base: { base ≤ 1000 },
 }
 
+pub mod answers;
 mod cells;
-pub mod ground;
 pub mod make;

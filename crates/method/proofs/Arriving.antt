@@ -1,6 +1,6 @@
 -- Following the smallest offers leads to the landing, and passes no place twice. Assumes nothing.
 use Rattle.std.proofs.Common.{◌≡◌, ℕ, zero, suc, ◌+◌, ◌<◌, ◌≤◌, cond, eqb, ltb, List, [], length, Some, None, Option, refl, ap, inl, inr, arith}
-use Rattle.std.specs.List.{AllByRecursion as All}
+use Rattle.std.specs.List.{AllByRecursion}
 use Rattle.std.proofs.ByRecursion.{All-weaker}
 use Rattle.std.proofs.lemmas.Bool.{cases_eq, cases_lt, cond-true, cond-false, cond_both, eq-eqb, ne_eqb, lt-ltb, le-ltb, ltb-true, ltb-false}
 use Rattle.terms.specs.Amounts.{far}
@@ -83,9 +83,9 @@ module _ (m : Meaning) (s : State) where
   -- a route from p to the landing
   pub record Arrives (p : ℕ) (js : List ℕ) : Type 0 where
     pub chain : Chain m p js s.landing
-    pub open_arcs : All (λ j. s.cost j < far) js
+    pub open_arcs : AllByRecursion (λ j. s.cost j < far) js
     pub sum_low : sum_of s.cost js ≤ rhs m s p
-    pub falling : All (λ q. s.g q ≤ s.g p) (passes m p js)
+    pub falling : AllByRecursion (λ q. s.g q ≤ s.g p) (passes m p js)
     pub once : Once (passes m p js)
     pub short : length js ≤ rank m s p
 

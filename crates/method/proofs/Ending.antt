@@ -1,6 +1,6 @@
 -- Where a search has ended: the route keeps the slack, and a value of far means that there is no open chain. Assumes nothing.
 use Rattle.std.proofs.Common.{◌≡◌, ℕ, ◌+◌, ◌*◌, ◌<◌, ◌≤◌, min, true, false, ◌⊎◌, List, [], ◌∷◌, length, sym, ap, ◌∙◌, subst, inl, inr, mul-le-mul_right, mul-le-mul_left, mul-add, arith}
-use Rattle.std.specs.List.{AllByRecursion as All}
+use Rattle.std.specs.List.{AllByRecursion}
 use Rattle.std.proofs.lemmas.Bool.{cases_Bool, cases_eq, cases_lt, true≢false}
 use Rattle.terms.specs.Amounts.{far}
 use Rattle.ground.specs.Meanings.{Meaning, Lawful}
@@ -129,7 +129,7 @@ module _ (m : Meaning) (law : Lawful m) (s : State) (sound : Sound m s) where
       on = λ p j f step. record { place_in = law.head_in j step.arc_within; below = omega (arith, step.adds, settled_place p f.place_in (none p), f.below) };
     }
 
-    sum_few : (p : ℕ) (js : List ℕ) → Chain m p js s.landing → All (λ j. s.cost j < far) js → sum_of s.cost js ≤ 10000 * length js
+    sum_few : (p : ℕ) (js : List ℕ) → Chain m p js s.landing → AllByRecursion (λ j. s.cost j < far) js → sum_of s.cost js ≤ 10000 * length js
     sum_few p [] c o = omega arith
     sum_few p (j ∷ js) c o = omega (arith, sound.standing.cost_high j c.0 o.0, sum_few (m.head j) js c.2 o.1)
 
@@ -155,7 +155,7 @@ module _ (m : Meaning) (law : Lawful m) (s : State) (sound : Sound m s) where
     bounded p p_in js chain few = omega (arith, all_good p p_in js chain, mul-le-mul_left s.slack few, mul-le-mul_right 163840000 sound.standing.slack_high)
 
     -- along an open chain to the landing every value is below far
-    all_finite : (js : List ℕ) (p : ℕ) → Chain m p js s.landing → All (λ j. s.cost j < far) js → s.g p < far
+    all_finite : (js : List ℕ) (p : ℕ) → Chain m p js s.landing → AllByRecursion (λ j. s.cost j < far) js → s.g p < far
     all_finite [] p c o = omega (arith, bounded p c.0 [] c (omega arith))
     all_finite (j ∷ js) p c o =
         let v = m.head j in
@@ -168,6 +168,6 @@ module _ (m : Meaning) (law : Lawful m) (s : State) (sound : Sound m s) where
         omega (arith, bounded p p_in (j ∷ route) (c.0, c.1, arrives.chain) (omega (arith, few, arrives.short, rank_below m s v v_in, law.few_places, sound.standing.cost_high j c.0 o.0)))
 
   -- a value of far at here means that there is no open chain
-  pub no_way_none : End m s → s.g s.here ≡ far → (js : List ℕ) → Chain m s.here js s.landing → All (λ j. s.cost j < far) js → ⊥
+  pub no_way_none : End m s → s.g s.here ≡ far → (js : List ℕ) → Chain m s.here js s.landing → AllByRecursion (λ j. s.cost j < far) js → ⊥
   no_way_none (nothing_open none) e js chain o = omega (arith, all_finite none js s.here chain o)
   no_way_none (here_first level first) e js chain o = omega (arith, all_finite (λ q k. (first q k).0 e) js s.here chain o)

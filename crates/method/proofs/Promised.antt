@@ -1,6 +1,6 @@
 -- The route promise, for every past. Assumes nothing.
 use Rattle.std.proofs.Common.{◌≡◌, ℕ, ◌+◌, ◌-◌, ◌*◌, ◌<◌, ◌≤◌, Bool, true, false, cond, ◌⊎◌, List, [], ◌∷◌, ◌++◌, length, Some, None, Option, sym, refl, ap, ◌∙◌, subst, inl, inr, arith}
-use Rattle.std.specs.List.{AllByRecursion as All}
+use Rattle.std.specs.List.{AllByRecursion}
 use Rattle.std.proofs.lemmas.Bool.{cases_Bool, cases_eq, cases_lt, cond-true, cond-false, eq-eqb, ne_eqb, le-leb, lt-leb, true≢false, false≢true}
 use Rattle.terms.specs.Amounts.{far}
 use Rattle.terms.specs.declared.refusal.Refusal.{Refusal}
@@ -25,16 +25,16 @@ module _ (m : Meaning) (law : Lawful m) (b : Begin) (past : Past) (s : State) (r
   costs : s.cost ≡ cost_in m past
   costs = λ i j. r.cost_is j i
 
-  to_past : (js : List ℕ) → Chain m s.here js s.landing → All (λ j. s.cost j < far) js → OpenChain m b past js
+  to_past : (js : List ℕ) → Chain m s.here js s.landing → AllByRecursion (λ j. s.cost j < far) js → OpenChain m b past js
   to_past js chain o = (
     subst (λ h. Chain m h js b.landing) r.here_is (subst (λ l. Chain m s.here js l) r.landing_is chain),
-    subst (λ c. All (λ j. c j < far) js) costs o,
+    subst (λ c. AllByRecursion (λ j. c j < far) js) costs o,
   )
 
-  from_past : (js : List ℕ) → OpenChain m b past js → Chain m s.here js s.landing × All (λ j. s.cost j < far) js
+  from_past : (js : List ℕ) → OpenChain m b past js → Chain m s.here js s.landing × AllByRecursion (λ j. s.cost j < far) js
   from_past js o = (
     subst (λ h. Chain m h js s.landing) (sym r.here_is) (subst (λ l. Chain m (here_in b past) js l) (sym r.landing_is) o.0),
-    subst (λ c. All (λ j. c j < far) js) (sym costs) o.1,
+    subst (λ c. AllByRecursion (λ j. c j < far) js) (sym costs) o.1,
   )
 
   module _ (said_settled : settled_in past ≡ true) where
@@ -176,12 +176,12 @@ told_older m b [] older told = told
 told_older m b (e ∷ newer) older told = told_older m b newer older told.1
 
 module _ (m : Meaning) (law : Lawful m) (b : Begin) (acc : Accepted m b) where
-  stretch_spent : (stretch older : Past) → Told m b (stretch ++ older) → All (λ e. alters e ≡ false) stretch → turns_in stretch ≤ spent (state_after m b (stretch ++ older))
+  stretch_spent : (stretch older : Past) → Told m b (stretch ++ older) → AllByRecursion (λ e. alters e ≡ false) stretch → turns_in stretch ≤ spent (state_after m b (stretch ++ older))
   stretch_spent [] older told quiet = omega arith
   stretch_spent (e ∷ stretch) older told quiet =
       spent_more m law b (stretch ++ older) (state_after m b (stretch ++ older)) (reached m law b acc (stretch ++ older) told.1) e told.0 quiet.0 (turns_in stretch) (stretch_spent stretch older told.1 quiet.1)
 
-  pub stretch_few : (newer stretch older : Past) → Told m b (newer ++ (stretch ++ older)) → All (λ e. alters e ≡ false) stretch → turns_in stretch ≤ 2 * m.places
+  pub stretch_few : (newer stretch older : Past) → Told m b (newer ++ (stretch ++ older)) → AllByRecursion (λ e. alters e ≡ false) stretch → turns_in stretch ≤ 2 * m.places
   stretch_few newer stretch older told quiet =
       let here = told_older m b newer (stretch ++ older) told in
       omega (arith, stretch_spent stretch older here quiet, spent_few m law b (stretch ++ older) (state_after m b (stretch ++ older)) (reached m law b acc (stretch ++ older) here))

@@ -33,9 +33,9 @@ given_ground (sum_over js) = false
 
 -- refused before anything else is looked at: nothing has begun, the ground is another, or a table is short
 abbrev pub turned_away_by : Option Size → Size → Lent → Call → Option Refusal
-turned_away_by None ground lent call = Some NotBegun
-turned_away_by (Some begun) ground lent call =
-    cond (given_ground call && not (same_size begun ground)) (Some OtherGround) (cond (is_short lent) (Some TableShort) None)
+turned_away_by None size lent call = Some NotBegun
+turned_away_by (Some begun) size lent call =
+    cond (given_ground call && not (same_size begun size)) (Some OtherGround) (cond (is_short lent) (Some TableShort) None)
 
 -- what Begin declines, in the order of the refusals' numbers
 abbrev pub begin_refusal : Meaning → Begin → Lent → Option Refusal

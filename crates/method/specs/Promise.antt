@@ -1,6 +1,6 @@
 -- The route promise, for every past of a plan. Assumes nothing.
 use Rattle.std.specs.Prelude.{◌≡◌, ℕ, ◌*◌, ◌<◌, ◌≤◌, true, false, ◌⊎◌, List, [], ◌∷◌, ◌++◌, length, ◌≢◌}
-use Rattle.std.specs.List.{AllByRecursion as All}
+use Rattle.std.specs.List.{AllByRecursion}
 use Rattle.terms.specs.Amounts.{far}
 use Rattle.terms.specs.declared.refusal.Refusal.TheVariants.{NoWay, ListShort}
 use Rattle.ground.specs.Meanings.{Meaning, Lawful}
@@ -11,12 +11,12 @@ use Rattle.method.specs.Pasts.{Begin, Accepted, Past, called, Told, accepted, he
 -- no number comes twice
 abbrev pub Once : List ℕ → Type 0
 Once [] = Unit {0}
-Once (p ∷ ps) = All (λ q. q ≢ p) ps × Once ps
+Once (p ∷ ps) = AllByRecursion (λ q. q ≢ p) ps × Once ps
 
 module _ (m : Meaning) (b : Begin) (past : Past) where
   -- open arcs, one after the other, from here to the landing
   abbrev pub OpenChain : List ℕ → Type 0
-  OpenChain js = Chain m (here_in b past) js b.landing × All (λ j. cost_in m past j < far) js
+  OpenChain js = Chain m (here_in b past) js b.landing × AllByRecursion (λ j. cost_in m past j < far) js
 
   -- what a chain costs
   abbrev pub chain_sum : List ℕ → ℕ
@@ -42,7 +42,7 @@ pub record RoutePromise (m : Meaning) : Type 0 where
   pub keeps_slack : (b : Begin) → Accepted m b → (past : Past) (entries : ℕ) (answer : Answer) → Told m b (called (route_into entries) answer ∷ past) → settled_in past ≡ true → KeepsSlack m b past entries answer
   pub no_way : (b : Begin) → Accepted m b → (past : Past) (entries : ℕ) (answer : Answer) → Told m b (called (route_into entries) answer ∷ past) → settled_in past ≡ true → NoWayIsNoWay m b past answer
   -- c. over any stretch of the past in which nothing altered the plan, the turns answered add up to at most twice the places
-  pub few_turns : (b : Begin) → Accepted m b → (newer stretch older : Past) → Told m b (newer ++ (stretch ++ older)) → All (λ e. alters e ≡ false) stretch → turns_in stretch ≤ 2 * m.places
+  pub few_turns : (b : Begin) → Accepted m b → (newer stretch older : Past) → Told m b (newer ++ (stretch ++ older)) → AllByRecursion (λ e. alters e ≡ false) stretch → turns_in stretch ≤ 2 * m.places
   -- and an accepted Search given at least that many turns says Settled
   pub settles_in_time : (b : Begin) → Accepted m b → (past : Past) (turns : ℕ) (answer : Answer) → Told m b (called (search_for turns) answer ∷ past) → 2 * m.places ≤ turns → accepted answer ≡ true → (made : ℕ) × (count : ℕ) × (answer ≡ settles made count)
 

@@ -18,11 +18,11 @@ pub(crate) fn begun(header: Option<Header>) -> Result<Header, Refusal>
 }
 
 // The header of a plan that has begun on a ground of this size.
-pub(crate) fn begun_on<G: Ground>(header: Option<Header>, ground: &G) -> Result<Header, Refusal>
-    ensures { result ≡ begun_on header (G.Ground.meaning ground.now) }
+pub(crate) fn begun_on<G: Ground>(header: Option<Header>, site: &G) -> Result<Header, Refusal>
+    ensures { result ≡ begun_on header (G.Ground.meaning site.now) }
 {
     let header = begun(header)?;
-    if header.places != ground.places() || header.arcs != ground.arcs() {
+    if header.places != site.places() || header.arcs != site.arcs() {
         return Err(Refusal::OtherGround);
     }
     Ok(header)

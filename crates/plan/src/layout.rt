@@ -13,12 +13,12 @@ use terms::amount::FAR;
 use terms::refusal::Refusal;
 
 // Every arc costs its least.
-pub(crate) fn cost_least<G: Ground>(ground: &G, costs: &mut [u32])
-    requires { length costs.old ≡ (G.Ground.meaning ground.now).arcs }
-    ensures { (j : ℕ) → j < length costs.old → slice_index costs.new j ≡ (G.Ground.meaning ground.now).least j }
+pub(crate) fn cost_least<G: Ground>(site: &G, costs: &mut [u32])
+    requires { length costs.old ≡ (G.Ground.meaning site.now).arcs }
+    ensures { (j : ℕ) → j < length costs.old → slice_index costs.new j ≡ (G.Ground.meaning site.now).least j }
 {
     for arc in 0..ground.arcs() {
-        if let Some(least) = ground.least(arc) {
+        if let Some(least) = site.least(arc) {
             costs[arc as usize] = least;
         }
     }
@@ -38,10 +38,10 @@ pub(crate) fn open_landing(landing: u32, places: &mut [Place])
 }
 
 // What an arc costs once Set gave it this, or why Set declines.
-pub(crate) fn standing_cost<G: Ground>(ground: &G, arc: u32, cost: u32) -> Result<u32, Refusal>
-    ensures { result ≡ or_refused (set_refusal (G.Ground.meaning ground.now) arc cost) (standing cost) }
+pub(crate) fn standing_cost<G: Ground>(site: &G, arc: u32, cost: u32) -> Result<u32, Refusal>
+    ensures { result ≡ or_refused (set_refusal (G.Ground.meaning site.now) arc cost) (standing cost) }
 {
-    let Some(least) = ground.least(arc) else {
+    let Some(least) = site.least(arc) else {
         return Err(Refusal::NoSuchArc);
     };
     if cost == 0 {
@@ -55,19 +55,19 @@ pub(crate) fn standing_cost<G: Ground>(ground: &G, arc: u32, cost: u32) -> Resul
 
 // Writes what an arc costs, and the rhs of its tail anew.
 pub(crate) fn write_cost<G: Ground>(
-    ground: &G,
+    site: &G,
     aim: Aim,
     arc: u32,
     cost: u32,
     costs: &mut [u32],
     places: &mut [Place],
 )
-    requires sized { Sized (G.Ground.meaning ground.now) costs.old places.old }
-    requires there { arc < (G.Ground.meaning ground.now).arcs }
-    ensures { CostWritten (G.Ground.meaning ground.now) aim arc cost costs.old places.old costs.new places.new }
+    requires sized { Sized (G.Ground.meaning site.now) costs.old places.old }
+    requires there { arc < (G.Ground.meaning site.now).arcs }
+    ensures { CostWritten (G.Ground.meaning site.now) aim arc cost costs.old places.old costs.new places.new }
 {
     costs[arc as usize] = cost;
-    if let Some(tail) = ground.tail(arc) {
-        refresh(ground, aim, costs, places, tail);
+    if let Some(tail) = site.tail(arc) {
+        refresh(site, aim, costs, places, tail);
     }
 }

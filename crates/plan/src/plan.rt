@@ -6,7 +6,7 @@ use crate::header::Header;
 mod alter;
 mod ask;
 mod begin;
-mod search;
+mod seek;
 
 // Where a plan stands, besides the tables that its caller lends to each call: nothing, until a Begin is accepted.
 #[derive(Clone, Copy)]

@@ -22,33 +22,33 @@ pub(crate) fn is_far(places: &[Place], p: u32) -> bool
 
 // The next arc of the route and the place that it leads to; None at the landing, and where no arc leaves.
 fn step<G: Ground>(
-    ground: &G,
+    site: &G,
     landing: u32,
     costs: &[u32],
     places: &[Place],
     p: u32,
 ) -> Option<(u32, u32)>
-    requires { Sized (G.Ground.meaning ground.now) costs.now places.now }
-    ensures step { result ≡ step_from (G.Ground.meaning ground.now) landing costs.now places.now p }
-    ensures arc { IfSome result (λ x. x.0 < (G.Ground.meaning ground.now).arcs) }
+    requires { Sized (G.Ground.meaning site.now) costs.now places.now }
+    ensures step { result ≡ step_from (G.Ground.meaning site.now) landing costs.now places.now p }
+    ensures arc { IfSome result (λ x. x.0 < (G.Ground.meaning site.now).arcs) }
 {
     if p == landing {
         return None;
     }
-    let arc = best_arc(ground, costs, places, p)?;
-    let head = ground.head(arc)?;
+    let arc = best_arc(site, costs, places, p)?;
+    let head = site.head(arc)?;
     Some((arc, head))
 }
 
 // How many arcs the route has.
-pub(crate) fn count_arcs<G: Ground>(ground: &G, aim: Aim, costs: &[u32], places: &[Place]) -> usize
-    requires { Sized (G.Ground.meaning ground.now) costs.now places.now }
-    ensures { result ≡ length (follow (G.Ground.meaning ground.now) (told aim costs.now places.now) (G.Ground.meaning ground.now).places aim.here) }
+pub(crate) fn count_arcs<G: Ground>(site: &G, aim: Aim, costs: &[u32], places: &[Place]) -> usize
+    requires { Sized (G.Ground.meaning site.now) costs.now places.now }
+    ensures { result ≡ length (follow (G.Ground.meaning site.now) (told aim costs.now places.now) (G.Ground.meaning site.now).places aim.here) }
 {
     let mut p = aim.here;
     let mut count = 0;
     while count < places.len() {
-        let Some((_, head)) = step(ground, aim.landing, costs, places, p) else {
+        let Some((_, head)) = step(site, aim.landing, costs, places, p) else {
             return count;
         };
         p = head;
@@ -59,21 +59,21 @@ pub(crate) fn count_arcs<G: Ground>(ground: &G, aim: Aim, costs: &[u32], places:
 
 // Writes so many arcs of the route from the front of the list, and answers their sum.
 pub(crate) fn write_arcs<G: Ground>(
-    ground: &G,
+    site: &G,
     aim: Aim,
     costs: &[u32],
     places: &[Place],
     count: usize,
     list: &mut [u32],
 ) -> u32
-    requires sized { Sized (G.Ground.meaning ground.now) costs.now places.now }
+    requires sized { Sized (G.Ground.meaning site.now) costs.now places.now }
     requires room { count ≤ length list.old }
-    ensures { Written (G.Ground.meaning ground.now) aim costs.now places.now count list.old list.new result }
+    ensures { Written (G.Ground.meaning site.now) aim costs.now places.now count list.old list.new result }
 {
     let mut p = aim.here;
     let mut sum = 0;
     for k in 0..count {
-        let Some((arc, head)) = step(ground, aim.landing, costs, places, p) else {
+        let Some((arc, head)) = step(site, aim.landing, costs, places, p) else {
             return sum;
         };
         list[k] = arc;

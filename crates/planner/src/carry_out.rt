@@ -16,19 +16,19 @@ use terms::refusal::Refusal;
 // Carries out one call. A route is written from the front of the list, and no other call writes there.
 pub fn carry_out<G: Ground>(
     plan: &mut Plan,
-    ground: &G,
+    site: &G,
     call: Call,
     costs: &mut [u32],
     places: &mut [Place],
     queue: &mut [Entry<Key>],
     list: &mut [u32],
 ) -> Result<Answer, Refusal>
-    ensures declined { Declined (G.Ground.meaning ground.now) call.entry (stand_of plan.old costs.old places.old queue.old) list.old result }
+    ensures declined { Declined (G.Ground.meaning site.now) call.entry (stand_of plan.old costs.old places.old queue.old) list.old result }
     ensures kept { Unless result (stand_of plan.old costs.old places.old queue.old) (stand_of plan.new costs.new places.new queue.new) }
     ensures listed { ListLeft call.entry result list.old list.new }
-    ensures beyond { Beyond (G.Ground.meaning ground.now) (stand_of plan.old costs.old places.old queue.old) (stand_of plan.new costs.new places.new queue.new) }
-    ensures began { Begins (G.Ground.meaning ground.now) call.entry result (stand_of plan.new costs.new places.new queue.new) }
-    ensures law { KeepsPromise (G.Ground.meaning ground.now) (event_of call.entry result list.new) (stand_of plan.old costs.old places.old queue.old) (stand_of plan.new costs.new places.new queue.new) }
+    ensures beyond { Beyond (G.Ground.meaning site.now) (stand_of plan.old costs.old places.old queue.old) (stand_of plan.new costs.new places.new queue.new) }
+    ensures began { Begins (G.Ground.meaning site.now) call.entry result (stand_of plan.new costs.new places.new queue.new) }
+    ensures law { KeepsPromise (G.Ground.meaning site.now) (event_of call.entry result list.new) (stand_of plan.old costs.old places.old queue.old) (stand_of plan.new costs.new places.new queue.new) }
     ensures away { TurnsAway result (stand_of plan.old costs.old places.old queue.old) (stand_of plan.new costs.new places.new queue.new) }
 {
     match call {
@@ -36,12 +36,12 @@ pub fn carry_out<G: Ground>(
             here,
             landing,
             slack,
-        } => plan.begin(ground, here, landing, slack, costs, places, queue),
-        Call::Set { arc, cost } => plan.set(ground, arc, cost, costs, places),
+        } => plan.begin(site, here, landing, slack, costs, places, queue),
+        Call::Set { arc, cost } => plan.set(site, arc, cost, costs, places),
         Call::Move { place } => plan.move_to(place),
         Call::Stretch { slack } => plan.stretch_to(slack),
-        Call::Search { turns } => plan.search(ground, turns, costs, places, queue),
-        Call::Route => plan.route(ground, costs, places, list),
+        Call::Search { turns } => plan.search(site, turns, costs, places, queue),
+        Call::Route => plan.route(site, costs, places, list),
         Call::Sum { arcs } => plan.sum(arcs, costs),
     }
 }

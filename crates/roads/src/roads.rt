@@ -37,5 +37,5 @@ pub struct Roads<'a, 't> {
     ghost enterers_right: { OrderRight (end_at Head arcs.now) (length arcs.now) enterers.now },
 }
 
-pub mod ground;
+pub mod answers;
 pub mod load;

@@ -21,22 +21,22 @@ fn clear(entries: &mut [Entry<Key>])
 
 // Takes every place out of Closed, and has the queue hold exactly those that wait.
 pub(crate) fn start_afresh<G: Ground>(
-    ground: &G,
+    site: &G,
     aim: Aim,
     places: &mut [Place],
     entries: &mut [Entry<Key>],
 )
-    requires here { aim.here < (G.Ground.meaning ground.now).places }
-    requires sized { length places.old ≡ (G.Ground.meaning ground.now).places }
-    requires slots { length entries.old ≡ (G.Ground.meaning ground.now).places }
-    ensures { StartedAfresh (G.Ground.meaning ground.now) aim places.old places.new entries.new }
+    requires here { aim.here < (G.Ground.meaning site.now).places }
+    requires sized { length places.old ≡ (G.Ground.meaning site.now).places }
+    requires slots { length entries.old ≡ (G.Ground.meaning site.now).places }
+    ensures { StartedAfresh (G.Ground.meaning site.now) aim places.old places.new entries.new }
 {
     clear(entries);
-    for p in 0..ground.places() {
+    for p in 0..site.places() {
         let place = Place {
             closed: false,
             ..places[p as usize]
         };
-        store(ground, aim, p, place, places, entries);
+        store(site, aim, p, place, places, entries);
     }
 }

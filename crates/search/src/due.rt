@@ -23,21 +23,21 @@ fn here_is_first(here: Place, aim: Aim, smallest: Key) -> bool
 
 // The place that has the next turn, or None if the end test holds.
 pub(crate) fn due<G: Ground>(
-    ground: &G,
+    site: &G,
     aim: Aim,
     places: &[Place],
     entries: &mut [Entry<Key>],
 ) -> Option<u32>
-    requires here { aim.here < (G.Ground.meaning ground.now).places }
-    requires sized { length places.now ≡ (G.Ground.meaning ground.now).places }
+    requires here { aim.here < (G.Ground.meaning site.now).places }
+    requires sized { length places.now ≡ (G.Ground.meaning site.now).places }
     ensures same { entries.new ≡ entries.old }
-    ensures within { IfSome result (λ p. p < (G.Ground.meaning ground.now).places) }
-    ensures due { (costs : List ℕ) → InStep (G.Ground.meaning ground.now) aim costs places.now entries.old → (s : State) → Shows (G.Ground.meaning ground.now) s aim costs places.now → Due (G.Ground.meaning ground.now) s result }
+    ensures within { IfSome result (λ p. p < (G.Ground.meaning site.now).places) }
+    ensures due { (costs : List ℕ) → InStep (G.Ground.meaning site.now) aim costs places.now entries.old → (s : State) → Shows (G.Ground.meaning site.now) s aim costs places.now → Due (G.Ground.meaning site.now) s result }
 {
     let Some((p, key)) = Queue::resume(entries).smallest() else {
         return None;
     };
-    if p >= ground.places() || here_is_first(places[aim.here as usize], aim, key) {
+    if p >= site.places() || here_is_first(places[aim.here as usize], aim, key) {
         return None;
     }
     Some(p)

@@ -19,33 +19,33 @@ pub struct Made {
 }
 
 pub(crate) fn run<G: Ground>(
-    ground: &G,
+    site: &G,
     aim: Aim,
     costs: &[u32],
     turns: u16,
     places: &mut [Place],
     entries: &mut [Entry<Key>],
 ) -> Made
-    requires here { aim.here < (G.Ground.meaning ground.now).places }
-    requires sized { Sized (G.Ground.meaning ground.now) costs.now places.old }
-    requires slots { length entries.old ≡ (G.Ground.meaning ground.now).places }
+    requires here { aim.here < (G.Ground.meaning site.now).places }
+    requires sized { Sized (G.Ground.meaning site.now) costs.now places.old }
+    requires slots { length entries.old ≡ (G.Ground.meaning site.now).places }
     ensures few { result.turns ≤ turns }
-    ensures made { RunMade (G.Ground.meaning ground.now) aim costs.now turns places.old entries.old places.new entries.new result }
+    ensures made { RunMade (G.Ground.meaning site.now) aim costs.now turns places.old entries.old places.new entries.new result }
 {
     let limit = u32::from(turns);
     let mut made = 0;
     while made < limit {
-        let Some(p) = due(ground, aim, places, entries) else {
+        let Some(p) = due(site, aim, places, entries) else {
             return Made {
                 settled: true,
                 turns: made,
             };
         };
-        turn(ground, aim, costs, p, places, entries);
+        turn(site, aim, costs, p, places, entries);
         made += 1;
     }
     Made {
-        settled: due(ground, aim, places, entries).is_none(),
+        settled: due(site, aim, places, entries).is_none(),
         turns: made,
     }
 }

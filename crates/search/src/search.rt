@@ -16,7 +16,7 @@ use queue::key::Key;
 // Makes turns until the end test holds or so many are made. Started afresh, it first empties Closed and makes the queue anew; else the queue is
 // the one that the last search left. Tables that do not have just an entry for each arc and place of the ground are left as they are.
 pub fn search<G: Ground>(
-    ground: &G,
+    site: &G,
     aim: Aim,
     afresh: bool,
     turns: u16,
@@ -25,14 +25,14 @@ pub fn search<G: Ground>(
     entries: &mut [Entry<Key>],
 ) -> Made
     ensures few { result.turns ≤ turns }
-    ensures made { Sized (G.Ground.meaning ground.now) costs.now places.old → length entries.old ≡ (G.Ground.meaning ground.now).places → Within (G.Ground.meaning ground.now) aim → Cached (G.Ground.meaning ground.now) aim costs.now places.old → (afresh ≡ false → Synced (G.Ground.meaning ground.now) aim (G.Ground.meaning ground.now).places places.old entries.old) → (s : State) → Shows (G.Ground.meaning ground.now) s aim costs.now places.old → SearchMade (G.Ground.meaning ground.now) aim afresh costs.now turns places.old places.new entries.new result s }
-    ensures unfit { (Sized (G.Ground.meaning ground.now) costs.now places.old → length entries.old ≡ (G.Ground.meaning ground.now).places → aim.here < (G.Ground.meaning ground.now).places → ⊥) → LeftAlone places.old entries.old places.new entries.new result }
+    ensures made { Sized (G.Ground.meaning site.now) costs.now places.old → length entries.old ≡ (G.Ground.meaning site.now).places → Within (G.Ground.meaning site.now) aim → Cached (G.Ground.meaning site.now) aim costs.now places.old → (afresh ≡ false → Synced (G.Ground.meaning site.now) aim (G.Ground.meaning site.now).places places.old entries.old) → (s : State) → Shows (G.Ground.meaning site.now) s aim costs.now places.old → SearchMade (G.Ground.meaning site.now) aim afresh costs.now turns places.old places.new entries.new result s }
+    ensures unfit { (Sized (G.Ground.meaning site.now) costs.now places.old → length entries.old ≡ (G.Ground.meaning site.now).places → aim.here < (G.Ground.meaning site.now).places → ⊥) → LeftAlone places.old entries.old places.new entries.new result }
 {
-    let n = ground.places() as usize;
-    if costs.len() != ground.arcs() as usize
+    let n = site.places() as usize;
+    if costs.len() != site.arcs() as usize
         || places.len() != n
         || entries.len() != n
-        || aim.here >= ground.places()
+        || aim.here >= site.places()
     {
         return Made {
             settled: false,
@@ -40,7 +40,7 @@ pub fn search<G: Ground>(
         };
     }
     if afresh {
-        start_afresh(ground, aim, places, entries);
+        start_afresh(site, aim, places, entries);
     }
-    run(ground, aim, costs, turns, places, entries)
+    run(site, aim, costs, turns, places, entries)
 }

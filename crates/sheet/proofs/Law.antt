@@ -1,7 +1,7 @@
 -- Arcs written out as a sheet are read back. Assumes nothing.
 use Rattle.std.proofs.Common.{◌≡◌, ℕ, ◌+◌, ◌-◌, ◌<◌, ◌≤◌, Bool, true, false, cond, ltb, List, [], ◌∷◌, ◌++◌, map, length, take, IfOk, Some, Ok, Err, decimal, Result, sym, refl, ap, ◌∙◌, subst, append_assoc, arith, length-append, length-take}
 use lib.ListN.{length-map}
-use Rattle.std.specs.List.{flat_map, AllByRecursion as All}
+use Rattle.std.specs.List.{flat_map, AllByRecursion}
 use Rattle.terms.specs.Amounts.{far}
 use Rattle.terms.specs.declared.arc.Arc.{Arc}
 use Rattle.terms.specs.declared.fault.SheetFault.{SheetFault}
@@ -97,7 +97,7 @@ stopped : (after : List ℕ) → Stops after → filled (lines_of after) ≡ []
 stopped [] s = refl
 stopped (b ∷ after) s = rw s refl
 
-rows_lines : (order : Columns) (arcs : List Arc) (after : List ℕ) → Stops after → All Typable arcs → filled (lines_of (flat_map (typed_arc order) arcs ++ after)) ≡ map (bare order) arcs
+rows_lines : (order : Columns) (arcs : List Arc) (after : List ℕ) → Stops after → AllByRecursion Typable arcs → filled (lines_of (flat_map (typed_arc order) arcs ++ after)) ≡ map (bare order) arcs
 rows_lines order [] after s t = stopped after s
 rows_lines order (a ∷ arcs) after s t =
     let line = bare_line order a t.0 in
@@ -107,13 +107,13 @@ rows_lines order (a ∷ arcs) after s t =
     ∙ filled_more _ _ line.some
     ∙ ap (λ r. bare order a ∷ r) (rows_lines order arcs after s t.1)
 
-rows_back : (order : Columns) (k : ℕ) (arcs : List Arc) → All Typable arcs → rows_of order k (map (bare order) arcs) ≡ Ok arcs
+rows_back : (order : Columns) (k : ℕ) (arcs : List Arc) → AllByRecursion Typable arcs → rows_of order k (map (bare order) arcs) ≡ Ok arcs
 rows_back order k [] t = refl
 rows_back order k (a ∷ arcs) t =
     ap (λ r. in_line k r (λ arc. and_these arc (rows_of order (k + 1) (map (bare order) arcs)))) (bare_line order a t.0).reads
     ∙ ap (and_these a) (rows_back order (k + 1) arcs t.1)
 
-rows_span : (order : Columns) (arcs : List Arc) → All Typable arcs → span (map (bare order) arcs) ≡ length (flat_map (typed_arc order) arcs)
+rows_span : (order : Columns) (arcs : List Arc) → AllByRecursion Typable arcs → span (map (bare order) arcs) ≡ length (flat_map (typed_arc order) arcs)
 rows_span order [] t = refl
 rows_span order (a ∷ arcs) t =
     omega (arith, rows_span order arcs t.1, length-append (typed_arc order a) (flat_map (typed_arc order) arcs), ap length (bare_line order a t.0).is, length-append (bare order a) (10 ∷ []))
@@ -126,7 +126,7 @@ names_solid ToLeastFrom = (without_from_lacks 10 (name_line ToLeastFrom) refl, o
 names_solid LeastFromTo = (without_from_lacks 10 (name_line LeastFromTo) refl, omega arith)
 names_solid LeastToFrom = (without_from_lacks 10 (name_line LeastToFrom) refl, omega arith)
 
-module _ (order : Columns) (arcs : List Arc) (after : List ℕ) (s : Stops after) (t : All Typable arcs) where
+module _ (order : Columns) (arcs : List Arc) (after : List ℕ) (s : Stops after) (t : AllByRecursion Typable arcs) where
   typed_lines : sheet_lines (typed_sheet order arcs ++ after) ≡ name_line order ∷ map (bare order) arcs
   typed_lines =
       let solid = names_solid order in

@@ -1,7 +1,7 @@
 -- Pieces and numbers that were written read back as they were. Assumes nothing.
 use Rattle.std.proofs.Common.{◌≡◌, ℕ, ◌<◌, ◌≤◌, Bool, true, not, ◌&&◌, eqb, List, [], ◌∷◌, ◌++◌, Ok, decimal, refl, ap, ◌∙◌, arith, rules}
 use Rattle.std.specs.Char.{is_ascii_digit}
-use Rattle.std.specs.List.{AllByRecursion as All}
+use Rattle.std.specs.List.{AllByRecursion}
 use Rattle.std.specs.Str.{all_ascii_digits}
 use Rattle.std.proofs.ByRecursion.{All-append}
 use Rattle.std.proofs.lemmas.Fmt.{decimal_nonempty, digits_decimal, digits_value-decimal, length-decimal-le}
@@ -15,7 +15,7 @@ use Rattle.text.proofs.Digits.{digit_range}
 
 -- no byte of the text is the stop
 abbrev pub Without : ℕ → List ℕ → Type 0
-Without stop bs = All (λ b. b ≡ stop → ⊥) bs
+Without stop bs = AllByRecursion (λ b. b ≡ stop → ⊥) bs
 
 -- a piece and the stop after it
 pub piece_back : (stop : ℕ) (last : List (List ℕ)) (piece rest : List ℕ) → Without stop piece → pieces stop last (piece ++ stop ∷ rest) ≡ piece ∷ pieces stop last rest

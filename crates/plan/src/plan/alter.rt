@@ -40,26 +40,26 @@ impl Plan {
     // Gives an arc a new cost, and 0 shuts it.
     pub fn set<G: Ground>(
         &mut self,
-        ground: &G,
+        site: &G,
         arc: u32,
         cost: u32,
         costs: &mut [u32],
         places: &mut [Place],
     ) -> Result<Answer, Refusal>
-        ensures declined { refusal_in result ≡ set_declines self.old.header (G.Ground.meaning ground.now) arc cost (length costs.old) (length places.old) }
+        ensures declined { refusal_in result ≡ set_declines self.old.header (G.Ground.meaning site.now) arc cost (length costs.old) (length places.old) }
         ensures kept { Unless result (stand_of self.old costs.old places.old []) (stand_of self.new costs.new places.new []) }
-        ensures beyond { Beyond (G.Ground.meaning ground.now) (stand_of self.old costs.old places.old []) (stand_of self.new costs.new places.new []) }
-        ensures state { (queue : List (EntryOf KeyOf)) → CarriesOut (G.Ground.meaning ground.now) (set_cost arc cost) (heard result []) (stand_of self.old costs.old places.old queue) (stand_of self.new costs.new places.new queue) }
+        ensures beyond { Beyond (G.Ground.meaning site.now) (stand_of self.old costs.old places.old []) (stand_of self.new costs.new places.new []) }
+        ensures state { (queue : List (EntryOf KeyOf)) → CarriesOut (G.Ground.meaning site.now) (set_cost arc cost) (heard result []) (stand_of self.old costs.old places.old queue) (stand_of self.new costs.new places.new queue) }
     {
-        let header = begun_on(self.header, ground)?;
+        let header = begun_on(self.header, site)?;
         if is_short(&[(costs.len(), header.arcs), (places.len(), header.places)]) {
             return Err(Refusal::TableShort);
         }
-        let cost = standing_cost(ground, arc, cost)?;
+        let cost = standing_cost(site, arc, cost)?;
         let m = header.arcs as usize;
         let n = header.places as usize;
         write_cost(
-            ground,
+            site,
             header.aim,
             arc,
             cost,

@@ -24,16 +24,16 @@ impl Plan {
     // Writes the arcs of the route from the front of the list, and answers their count and sum.
     pub fn route<G: Ground>(
         &self,
-        ground: &G,
+        site: &G,
         costs: &[u32],
         places: &[Place],
         list: &mut [u32],
     ) -> Result<Answer, Refusal>
-        ensures declined { RouteTurnedAway (route_declines self.now.header (G.Ground.meaning ground.now) (length list.old) (length costs.now) (length places.now)) result }
+        ensures declined { RouteTurnedAway (route_declines self.now.header (G.Ground.meaning site.now) (length list.old) (length costs.now) (length places.now)) result }
         ensures kept { ListKept result list.old list.new }
-        ensures state { (queue : List (EntryOf KeyOf)) → CarriesOut (G.Ground.meaning ground.now) (route_into (length list.old)) (heard result list.new) (stand_of self.now costs.now places.now queue) (stand_of self.now costs.now places.now queue) }
+        ensures state { (queue : List (EntryOf KeyOf)) → CarriesOut (G.Ground.meaning site.now) (route_into (length list.old)) (heard result list.new) (stand_of self.now costs.now places.now queue) (stand_of self.now costs.now places.now queue) }
     {
-        let header = begun_on(self.header, ground)?;
+        let header = begun_on(self.header, site)?;
         if is_short(&[(costs.len(), header.arcs), (places.len(), header.places)]) {
             return Err(Refusal::TableShort);
         }
@@ -43,11 +43,11 @@ impl Plan {
         if is_far(places, header.aim.here) {
             return Err(Refusal::NoWay);
         }
-        let count = count_arcs(ground, header.aim, costs, places);
+        let count = count_arcs(site, header.aim, costs, places);
         if count > list.len() {
             return Err(Refusal::ListShort);
         }
-        let sum = write_arcs(ground, header.aim, costs, places, count, list);
+        let sum = write_arcs(site, header.aim, costs, places, count, list);
         Ok(Answer::Route { arcs: count, sum })
     }
 

@@ -24,7 +24,7 @@ impl Plan {
     // Begins anew, whatever the plan and the tables held: each arc costs its least, no place has a value, and nothing is closed or counted.
     pub fn begin<G: Ground>(
         &mut self,
-        ground: &G,
+        site: &G,
         here: u32,
         landing: u32,
         slack: u32,
@@ -32,13 +32,13 @@ impl Plan {
         places: &mut [Place],
         queue: &mut [Entry<Key>],
     ) -> Result<Answer, Refusal>
-        ensures declined { refusal_in result ≡ begin_declines (G.Ground.meaning ground.now) here landing slack (length costs.old) (length places.old) (length queue.old) }
+        ensures declined { refusal_in result ≡ begin_declines (G.Ground.meaning site.now) here landing slack (length costs.old) (length places.old) (length queue.old) }
         ensures kept { Unless result (stand_of self.old costs.old places.old queue.old) (stand_of self.new costs.new places.new queue.new) }
-        ensures beyond { Beyond (G.Ground.meaning ground.now) (stand_of self.old costs.old places.old queue.old) (stand_of self.new costs.new places.new queue.new) }
-        ensures state { refusal_in result ≡ None → (result ≡ Ok Done) × Accepted (G.Ground.meaning ground.now) (begin_with here landing slack) × Holds (G.Ground.meaning ground.now) (begun (G.Ground.meaning ground.now) (begin_with here landing slack)) (stand_of self.new costs.new places.new queue.new) }
+        ensures beyond { Beyond (G.Ground.meaning site.now) (stand_of self.old costs.old places.old queue.old) (stand_of self.new costs.new places.new queue.new) }
+        ensures state { refusal_in result ≡ None → (result ≡ Ok Done) × Accepted (G.Ground.meaning site.now) (begin_with here landing slack) × Holds (G.Ground.meaning site.now) (begun (G.Ground.meaning site.now) (begin_with here landing slack)) (stand_of self.new costs.new places.new queue.new) }
     {
-        let n = ground.places();
-        let m = ground.arcs();
+        let n = site.places();
+        let m = site.arcs();
         if here >= n || landing >= n {
             return Err(Refusal::NoSuchPlace);
         }
@@ -46,7 +46,7 @@ impl Plan {
         if is_short(&[(costs.len(), m), (places.len(), n), (queue.len(), n)]) {
             return Err(Refusal::TableShort);
         }
-        cost_least(ground, &mut costs[0..m as usize]);
+        cost_least(site, &mut costs[0..m as usize]);
         open_landing(landing, &mut places[0..n as usize]);
         self.header = Some(Header {
             places: n,

@@ -6,7 +6,7 @@ use Rattle.plan.proofs.layout.cost_least.Goals.{in-Some, in_default}
 
 pub loop-arc-preserved : goal.loop-arc-preserved
 loop-arc-preserved g c =
-    let m = g.G.Ground.meaning c.args.ground.now in
+    let m = g.G.Ground.meaning c.args.site.now in
     let i = c.loop-arc.arc in
     elim c.match-least.branch [
       | in-Some w ↦

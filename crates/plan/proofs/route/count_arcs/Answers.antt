@@ -6,7 +6,7 @@ use Rattle.plan.proofs.route.count_arcs.Goals as goal
 
 pub returns-in_default : goal.returns-in_default
 returns-in_default g c =
-    let m = g.G.Ground.meaning c.args.ground.now in
+    let m = g.G.Ground.meaning c.args.site.now in
     let n = length c.args.places.now in
     let s = told c.args.aim c.args.costs.now c.args.places.now in
     let e : n ≡ m.places = c.requires.places_fit in
@@ -14,13 +14,13 @@ returns-in_default g c =
 
 pub loop-count-preserved : goal.loop-count-preserved
 loop-count-preserved g c =
-    let m = g.G.Ground.meaning c.args.ground.now in
+    let m = g.G.Ground.meaning c.args.site.now in
     let n = length c.args.places.now in
     omega (arith, c.loop-count.invariant, ap length (follow_step m c.args.aim c.args.costs.now c.args.places.now c.loop-count.p (n - c.loop-count.count) (n - (c.loop-count.count + 1)) c.in-Some.field-0-0 c.in-Some.head (omega arith) (sym c.in-Some.ensures.step)))
 
 pub returns : goal.returns
 returns g c =
-    let m = g.G.Ground.meaning c.args.ground.now in
+    let m = g.G.Ground.meaning c.args.site.now in
     let n = length c.args.places.now in
     let s = told c.args.aim c.args.costs.now c.args.places.now in
     let e : n ≡ m.places = c.requires.places_fit in

@@ -5,8 +5,8 @@ use Rattle.plan.proofs.route.count_arcs.Given as goal
 
 abbrev pub invariant-loop-count : goal.invariant-loop-count
 invariant-loop-count g l =
-    length (follow (g.G.Ground.meaning l.ground) (told l.aim l.costs l.places) (length l.places) l.aim.here)
-    ≡ l.count + length (follow (g.G.Ground.meaning l.ground) (told l.aim l.costs l.places) (length l.places - l.count) l.p)
+    length (follow (g.G.Ground.meaning l.site) (told l.aim l.costs l.places) (length l.places) l.aim.here)
+    ≡ l.count + length (follow (g.G.Ground.meaning l.site) (told l.aim l.costs l.places) (length l.places - l.count) l.p)
 
 abbrev pub decreases-loop-count : goal.decreases-loop-count
 decreases-loop-count g l = length l.places - l.count

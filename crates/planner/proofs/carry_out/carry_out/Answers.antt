@@ -9,8 +9,8 @@ use Rattle.planner.proofs.carry_out.carry_out.Goals as goal
 
 pub returns-in-Begin : goal.returns-in-Begin
 returns-in-Begin g c =
-    let m = g.G.Ground.meaning c.args.ground.now in
-    let lawful = g.G.Ground.lawful c.args.ground.now in
+    let m = g.G.Ground.meaning c.args.site.now in
+    let lawful = g.G.Ground.lawful c.args.site.now in
     let r = c.begin.result in
     let before : Stand = stand_of c.args.plan.now c.args.costs.now c.args.places.now c.args.queue.now in
     let after : Stand = stand_of c.begin.new.self c.begin.new.costs c.begin.new.places c.begin.new.queue in
@@ -27,8 +27,8 @@ returns-in-Begin g c =
 
 pub returns-in-Set : goal.returns-in-Set
 returns-in-Set g c =
-    let m = g.G.Ground.meaning c.args.ground.now in
-    let lawful = g.G.Ground.lawful c.args.ground.now in
+    let m = g.G.Ground.meaning c.args.site.now in
+    let lawful = g.G.Ground.lawful c.args.site.now in
     let r = c.set.result in
     let before : Stand = stand_of c.args.plan.now c.args.costs.now c.args.places.now c.args.queue.now in
     let after : Stand = stand_of c.set.new.self c.set.new.costs c.set.new.places c.args.queue.now in
@@ -45,8 +45,8 @@ returns-in-Set g c =
 
 pub returns-in-Move : goal.returns-in-Move
 returns-in-Move g c =
-    let m = g.G.Ground.meaning c.args.ground.now in
-    let lawful = g.G.Ground.lawful c.args.ground.now in
+    let m = g.G.Ground.meaning c.args.site.now in
+    let lawful = g.G.Ground.lawful c.args.site.now in
     let r = c.move_to.result in
     let before : Stand = stand_of c.args.plan.now c.args.costs.now c.args.places.now c.args.queue.now in
     let after : Stand = stand_of c.move_to.new.self c.args.costs.now c.args.places.now c.args.queue.now in
@@ -63,8 +63,8 @@ returns-in-Move g c =
 
 pub returns-in-Stretch : goal.returns-in-Stretch
 returns-in-Stretch g c =
-    let m = g.G.Ground.meaning c.args.ground.now in
-    let lawful = g.G.Ground.lawful c.args.ground.now in
+    let m = g.G.Ground.meaning c.args.site.now in
+    let lawful = g.G.Ground.lawful c.args.site.now in
     let r = c.stretch_to.result in
     let before : Stand = stand_of c.args.plan.now c.args.costs.now c.args.places.now c.args.queue.now in
     let after : Stand = stand_of c.stretch_to.new.self c.args.costs.now c.args.places.now c.args.queue.now in
@@ -81,8 +81,8 @@ returns-in-Stretch g c =
 
 pub returns-in-Search : goal.returns-in-Search
 returns-in-Search g c =
-    let m = g.G.Ground.meaning c.args.ground.now in
-    let lawful = g.G.Ground.lawful c.args.ground.now in
+    let m = g.G.Ground.meaning c.args.site.now in
+    let lawful = g.G.Ground.lawful c.args.site.now in
     let r = c.search.result in
     let before : Stand = stand_of c.args.plan.now c.args.costs.now c.args.places.now c.args.queue.now in
     let after : Stand = stand_of c.search.new.self c.args.costs.now c.search.new.places c.search.new.queue in
@@ -99,8 +99,8 @@ returns-in-Search g c =
 
 pub returns-in-Route : goal.returns-in-Route
 returns-in-Route g c =
-    let m = g.G.Ground.meaning c.args.ground.now in
-    let lawful = g.G.Ground.lawful c.args.ground.now in
+    let m = g.G.Ground.meaning c.args.site.now in
+    let lawful = g.G.Ground.lawful c.args.site.now in
     let r = c.route.result in
     let before : Stand = stand_of c.args.plan.now c.args.costs.now c.args.places.now c.args.queue.now in
     let after : Stand = stand_of c.args.plan.now c.args.costs.now c.args.places.now c.args.queue.now in
@@ -117,8 +117,8 @@ returns-in-Route g c =
 
 pub returns-in-Sum : goal.returns-in-Sum
 returns-in-Sum g c =
-    let m = g.G.Ground.meaning c.args.ground.now in
-    let lawful = g.G.Ground.lawful c.args.ground.now in
+    let m = g.G.Ground.meaning c.args.site.now in
+    let lawful = g.G.Ground.lawful c.args.site.now in
     let r = c.sum.result in
     let before : Stand = stand_of c.args.plan.now c.args.costs.now c.args.places.now c.args.queue.now in
     let after : Stand = stand_of c.args.plan.now c.args.costs.now c.args.places.now c.args.queue.now in

@@ -6,7 +6,7 @@ use Rattle.search.proofs.afresh.start_afresh.Goals as goal
 
 pub loop-p-init : goal.loop-p-init
 loop-p-init g c = (
-  empty_synced (g.G.Ground.meaning c.args.ground.now) c.args.aim c.args.places.now c.clear.new.entries c.clear.ensures,
+  empty_synced (g.G.Ground.meaning c.args.site.now) c.args.aim c.args.places.now c.clear.new.entries c.clear.ensures,
   λ q l. absurd (omega arith),
   λ q h. refl,
 )
@@ -25,7 +25,7 @@ loop-p-preserved g c =
 
 pub returns : goal.returns
 returns g c =
-    let m = g.G.Ground.meaning c.args.ground.now in
+    let m = g.G.Ground.meaning c.args.site.now in
     let all : c.loop-p.p ≡ m.places = omega (arith, c.loop-p-test.false, c.loop-p.auto.p-end, c.places-p-end.ensures) in
     record {
       reopens = λ q l. c.loop-p.invariant.1 q (omega (arith, c.requires.sized));

@@ -5,6 +5,6 @@ use Rattle.search.proofs.afresh.start_afresh.Given as goal
 
 abbrev pub invariant-loop-p : goal.invariant-loop-p
 invariant-loop-p g l =
-    Synced (g.G.Ground.meaning l.ground) l.aim l.p l.places l.entries ×
+    Synced (g.G.Ground.meaning l.site) l.aim l.p l.places l.entries ×
     ((q : ℕ) → q < l.p → place_at l.places q ≡ reopened (place_at l.initial.places q)) ×
     ((q : ℕ) → l.p ≤ q → place_at l.places q ≡ place_at l.initial.places q)

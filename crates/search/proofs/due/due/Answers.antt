@@ -17,8 +17,8 @@ leads_there es₀ es x e h sound = subst (λ (z : List (Entry Key)). Leads key_u
 
 pub returns-in_default : goal.returns-in_default
 returns-in_default g c =
-    let m = g.G.Ground.meaning c.args.ground.now in
-    let law = g.G.Ground.lawful c.args.ground.now in
+    let m = g.G.Ground.meaning c.args.site.now in
+    let law = g.G.Ground.lawful c.args.site.now in
     let es = c.args.entries.now in
     record {
       same = search rules;
@@ -28,8 +28,8 @@ returns-in_default g c =
 
 pub returns-then-p-places : goal.returns-then-p-places
 returns-then-p-places g c =
-    let m = g.G.Ground.meaning c.args.ground.now in
-    let law = g.G.Ground.lawful c.args.ground.now in
+    let m = g.G.Ground.meaning c.args.site.now in
+    let law = g.G.Ground.lawful c.args.site.now in
     let aim = c.args.aim in
     let places = c.args.places.now in
     let es = c.args.entries.now in
@@ -45,8 +45,8 @@ returns-then-p-places g c =
 
 pub returns : goal.returns
 returns g c =
-    let m = g.G.Ground.meaning c.args.ground.now in
-    let law = g.G.Ground.lawful c.args.ground.now in
+    let m = g.G.Ground.meaning c.args.site.now in
+    let law = g.G.Ground.lawful c.args.site.now in
     let aim = c.args.aim in
     let places = c.args.places.now in
     let es = c.args.entries.now in

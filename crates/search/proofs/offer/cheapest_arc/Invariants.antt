@@ -7,9 +7,9 @@ use Rattle.search.proofs.offer.cheapest_arc.Given as goal
 
 abbrev pub invariant-loop-arc : goal.invariant-loop-arc
 invariant-loop-arc g l =
-    (better (λ i j. ltb (offered (g.G.Ground.meaning l.ground) l.costs l.places i) (offered (g.G.Ground.meaning l.ground) l.costs l.places j)) l.best (cheapest (offered (g.G.Ground.meaning l.ground) l.costs l.places) (drop l.k (arcs_from (g.G.Ground.meaning l.ground) l.p)))
-    ≡ cheapest (offered (g.G.Ground.meaning l.ground) l.costs l.places) (arcs_from (g.G.Ground.meaning l.ground) l.p))
-    × (l.least ≡ offered (g.G.Ground.meaning l.ground) l.costs l.places l.best)
+    (better (λ i j. ltb (offered (g.G.Ground.meaning l.site) l.costs l.places i) (offered (g.G.Ground.meaning l.site) l.costs l.places j)) l.best (cheapest (offered (g.G.Ground.meaning l.site) l.costs l.places) (drop l.k (arcs_from (g.G.Ground.meaning l.site) l.p)))
+    ≡ cheapest (offered (g.G.Ground.meaning l.site) l.costs l.places) (arcs_from (g.G.Ground.meaning l.site) l.p))
+    × (l.least ≡ offered (g.G.Ground.meaning l.site) l.costs l.places l.best)
 
 abbrev pub decreases-loop-arc : goal.decreases-loop-arc
-decreases-loop-arc g l = length (arcs_from (g.G.Ground.meaning l.ground) l.p) - l.k
+decreases-loop-arc g l = length (arcs_from (g.G.Ground.meaning l.site) l.p) - l.k

@@ -4,6 +4,6 @@ use Rattle.search.proofs.offer.offer.Goals as goal
 
 pub bounds-places-head : goal.bounds-places-head
 bounds-places-head g c =
-    let m = g.G.Ground.meaning c.args.ground.now in
-    let h = head_is m (g.G.Ground.lawful c.args.ground.now) c.args.arc c.requires.there c.in-Some.head c.in-Some.ensures in
+    let m = g.G.Ground.meaning c.args.site.now in
+    let h = head_is m (g.G.Ground.lawful c.args.site.now) c.args.arc c.requires.there c.in-Some.head c.in-Some.ensures in
     omega arith

@@ -8,8 +8,8 @@ use Rattle.search.proofs.offer.smallest_offer.Given as goal
 abbrev pub invariant-loop-arc : goal.invariant-loop-arc
 invariant-loop-arc g l =
     (l.least ≤ far) ×
-    (min l.least (smallest (map (offered (g.G.Ground.meaning l.ground) l.costs l.places) (drop l.k (arcs_from (g.G.Ground.meaning l.ground) l.p))))
-    ≡ smallest (map (offered (g.G.Ground.meaning l.ground) l.costs l.places) (arcs_from (g.G.Ground.meaning l.ground) l.p)))
+    (min l.least (smallest (map (offered (g.G.Ground.meaning l.site) l.costs l.places) (drop l.k (arcs_from (g.G.Ground.meaning l.site) l.p))))
+    ≡ smallest (map (offered (g.G.Ground.meaning l.site) l.costs l.places) (arcs_from (g.G.Ground.meaning l.site) l.p)))
 
 abbrev pub decreases-loop-arc : goal.decreases-loop-arc
-decreases-loop-arc g l = length (arcs_from (g.G.Ground.meaning l.ground) l.p) - l.k
+decreases-loop-arc g l = length (arcs_from (g.G.Ground.meaning l.site) l.p) - l.k

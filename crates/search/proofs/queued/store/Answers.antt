@@ -4,7 +4,7 @@ use Rattle.search.proofs.queued.store.Goals as goal
 
 pub returns : goal.returns
 returns g c =
-    let m = g.G.Ground.meaning c.args.ground.now in
+    let m = g.G.Ground.meaning c.args.site.now in
     let aim = c.args.aim in
     let p = c.args.p in
     let places = c.args.places.now in

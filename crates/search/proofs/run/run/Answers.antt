@@ -4,7 +4,7 @@ use Rattle.search.proofs.run.run.Goals as goal
 
 pub returns-in_default : goal.returns-in_default
 returns-in_default g c =
-    let m = g.G.Ground.meaning c.args.ground.now in
+    let m = g.G.Ground.meaning c.args.site.now in
     let due = c.in_default.ensures in
     record {
       few = c.loop-made.invariant.few;
@@ -13,14 +13,14 @@ returns-in_default g c =
 
 pub loop-made-preserved : goal.loop-made-preserved
 loop-made-preserved g c =
-    let m = g.G.Ground.meaning c.args.ground.now in
+    let m = g.G.Ground.meaning c.args.site.now in
     let due = c.in-Some.ensures in
     one_turn_more m c.args.aim c.args.costs.now c.args.turns c.args.places.now c.args.entries.now c.loop-made.made c.loop-made.places c.loop-made.entries c.due.new.entries due.same c.loop-made.invariant
     c.in-Some.p c.turn.new.places c.turn.new.entries (omega arith) (due.due c.args.costs.now) c.turn.ensures
 
 pub returns : goal.returns
 returns g c =
-    let m = g.G.Ground.meaning c.args.ground.now in
+    let m = g.G.Ground.meaning c.args.site.now in
     let due = c.due-2.ensures in
     record {
       few = c.loop-made.invariant.few;

@@ -10,8 +10,8 @@ use Rattle.search.proofs.search.search.Goals.{then-afresh, else-afresh}
 
 pub returns : goal.returns
 returns g c =
-    let m = g.G.Ground.meaning c.args.ground.now in
-    let law = g.G.Ground.lawful c.args.ground.now in
+    let m = g.G.Ground.meaning c.args.site.now in
+    let law = g.G.Ground.lawful c.args.site.now in
     let aim = c.args.aim in
     let afresh = c.args.afresh in
     let costs = c.args.costs.now in

@@ -8,14 +8,14 @@ use Rattle.search.proofs.turn.lower.Goals as goal
 
 pub store-requires : goal.store-requires
 store-requires g c =
-    let m = g.G.Ground.meaning c.args.ground.now in
-    let t = tail_is m (g.G.Ground.lawful c.args.ground.now) c.args.arc c.requires.there c.in-Some.tail c.in-Some.ensures in
+    let m = g.G.Ground.meaning c.args.site.now in
+    let t = tail_is m (g.G.Ground.lawful c.args.site.now) c.args.arc c.requires.there c.in-Some.tail c.in-Some.ensures in
     record { here = c.requires.here; sized = c.requires.sized.places_fit; slots = c.requires.slots; there = omega (arith, c.requires.sized.places_fit) }
 
 pub returns-then-rhs-place : goal.returns-then-rhs-place
 returns-then-rhs-place g c =
-    let m = g.G.Ground.meaning c.args.ground.now in
-    let t = tail_is m (g.G.Ground.lawful c.args.ground.now) c.args.arc c.requires.there c.in-Some.tail c.in-Some.ensures in
+    let m = g.G.Ground.meaning c.args.site.now in
+    let t = tail_is m (g.G.Ground.lawful c.args.site.now) c.args.arc c.requires.there c.in-Some.tail c.in-Some.ensures in
     let way : c.capped_sum-rhs.result ≡ get_or c.args.costs.now c.args.arc 0 ⊕ c.args.value = c.capped_sum-rhs.ensures in
     let within : c.in-Some.tail < length c.args.places.now = omega (arith, c.requires.sized.places_fit) in
     record {

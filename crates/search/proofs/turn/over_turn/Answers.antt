@@ -15,12 +15,12 @@ store-requires g c = record { here = c.requires.here; sized = c.requires.sized.p
 
 pub loop-arc-init : goal.loop-arc-init
 loop-arc-init g c =
-    let m : Meaning = g.G.Ground.meaning c.args.ground.now in
+    let m : Meaning = g.G.Ground.meaning c.args.site.now in
     (lowering_none m c.args.aim c.args.costs.now c.args.p (place_at c.args.places.now c.args.p).rhs c.store.new.places, λ s. s)
 
 pub lower-requires : goal.lower-requires
 lower-requires g c =
-    let m : Meaning = g.G.Ground.meaning c.args.ground.now in
+    let m : Meaning = g.G.Ground.meaning c.args.site.now in
     let is : slice_get (arcs_into m c.args.p) c.loop-arc.k ≡ Some c.in-Some.arc = sym c.in-Some.ensures in
     record {
       here = c.requires.here;
@@ -31,22 +31,22 @@ lower-requires g c =
 
 pub overflow_add-k : goal.overflow_add-k
 overflow_add-k g c =
-    let m : Meaning = g.G.Ground.meaning c.args.ground.now in
-    let few = (g.G.Ground.lawful c.args.ground.now).few_arcs in
+    let m : Meaning = g.G.Ground.meaning c.args.site.now in
+    let few = (g.G.Ground.lawful c.args.site.now).few_arcs in
     let is : slice_get (arcs_into m c.args.p) c.loop-arc.k ≡ Some c.in-Some.arc = sym c.in-Some.ensures in
     let d = drop_at (arcs_into m c.args.p) c.loop-arc.k c.in-Some.arc is in
     record { fits = omega (arith, d.0, arcs_at-few m.head m.arcs c.args.p) }
 
 pub loop-arc-smaller : goal.loop-arc-smaller
 loop-arc-smaller g c =
-    let m : Meaning = g.G.Ground.meaning c.args.ground.now in
+    let m : Meaning = g.G.Ground.meaning c.args.site.now in
     let is : slice_get (arcs_into m c.args.p) c.loop-arc.k ≡ Some c.in-Some.arc = sym c.in-Some.ensures in
     let d = drop_at (arcs_into m c.args.p) c.loop-arc.k c.in-Some.arc is in
     omega (arith, d.0)
 
 pub loop-arc-preserved : goal.loop-arc-preserved
 loop-arc-preserved g c =
-    let m : Meaning = g.G.Ground.meaning c.args.ground.now in
+    let m : Meaning = g.G.Ground.meaning c.args.site.now in
     let is : slice_get (arcs_into m c.args.p) c.loop-arc.k ≡ Some c.in-Some.arc = sym c.in-Some.ensures in (
       lowering_more m c.args.aim c.args.costs.now c.args.p (place_at c.args.places.now c.args.p).rhs c.store.new.places c.loop-arc.k c.loop-arc.places c.lower.new.places c.loop-arc.invariant.0 c.in-Some.arc is c.lower.ensures.lowered,
       λ s. c.lower.ensures.synced (c.loop-arc.invariant.1 s),
@@ -54,7 +54,7 @@ loop-arc-preserved g c =
 
 pub returns : goal.returns
 returns g c =
-    let m : Meaning = g.G.Ground.meaning c.args.ground.now in
+    let m : Meaning = g.G.Ground.meaning c.args.site.now in
     let before = c.args.places.now in
     let none : slice_get (arcs_into m c.args.p) c.loop-arc.k ≡ None = sym c.in_default.ensures in
     let b = begun before c.store.new.places c.args.p (record { g = (place_at before c.args.p).rhs; rhs = (place_at before c.args.p).rhs; closed = true }) (omega (arith, c.requires.sized.places_fit, c.requires.there)) c.store.ensures.written refl in

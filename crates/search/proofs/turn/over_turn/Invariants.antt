@@ -6,8 +6,8 @@ use Rattle.search.proofs.turn.over_turn.Given as goal
 
 abbrev pub invariant-loop-arc : goal.invariant-loop-arc
 invariant-loop-arc g l =
-    Lowering (g.G.Ground.meaning l.ground) l.aim l.costs l.p l.value l.initial.places l.k l.places
-    × StaysSynced (g.G.Ground.meaning l.ground) l.aim l.initial.places l.initial.entries l.places l.entries
+    Lowering (g.G.Ground.meaning l.site) l.aim l.costs l.p l.value l.initial.places l.k l.places
+    × StaysSynced (g.G.Ground.meaning l.site) l.aim l.initial.places l.initial.entries l.places l.entries
 
 abbrev pub decreases-loop-arc : goal.decreases-loop-arc
-decreases-loop-arc g l = length (arcs_into (g.G.Ground.meaning l.ground) l.p) - l.k
+decreases-loop-arc g l = length (arcs_into (g.G.Ground.meaning l.site) l.p) - l.k

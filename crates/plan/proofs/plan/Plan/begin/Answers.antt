@@ -9,8 +9,8 @@ use Rattle.plan.proofs.plan.Plan.begin.Goals as goal
 
 pub returns : goal.returns
 returns g c =
-    let m = g.G.Ground.meaning c.args.ground.now in
-    let lawful = g.G.Ground.lawful c.args.ground.now in
+    let m = g.G.Ground.meaning c.args.site.now in
+    let lawful = g.G.Ground.lawful c.args.site.now in
     let n = c.places-n.result in
     let a = c.arcs-m.result in
     let places_same : n ≡ m.places = c.places-n.ensures in

@@ -12,8 +12,8 @@ use Rattle.plan.proofs.plan.Plan.route.Goals as goal
 
 pub returns-in_err-course_for : goal.returns-in_err-course_for
 returns-in_err-course_for g c =
-    let m = g.G.Ground.meaning c.args.ground.now in
-    let law : Lawful m = g.G.Ground.lawful c.args.ground.now in
+    let m = g.G.Ground.meaning c.args.site.now in
+    let law : Lawful m = g.G.Ground.lawful c.args.site.now in
     let o = c.args.self.now.header in
     let h = c.in_ok-header.header in
     let costs = c.args.costs.now in
@@ -31,8 +31,8 @@ returns-in_err-course_for g c =
 
 pub returns-then-is_far : goal.returns-then-is_far
 returns-then-is_far g c =
-    let m = g.G.Ground.meaning c.args.ground.now in
-    let law : Lawful m = g.G.Ground.lawful c.args.ground.now in
+    let m = g.G.Ground.meaning c.args.site.now in
+    let law : Lawful m = g.G.Ground.lawful c.args.site.now in
     let o = c.args.self.now.header in
     let h = c.in_ok-header.header in
     let costs = c.args.costs.now in
@@ -49,8 +49,8 @@ returns-then-is_far g c =
 
 pub returns-then-count-list : goal.returns-then-count-list
 returns-then-count-list g c =
-    let m = g.G.Ground.meaning c.args.ground.now in
-    let law : Lawful m = g.G.Ground.lawful c.args.ground.now in
+    let m = g.G.Ground.meaning c.args.site.now in
+    let law : Lawful m = g.G.Ground.lawful c.args.site.now in
     let o = c.args.self.now.header in
     let h = c.in_ok-header.header in
     let costs = c.args.costs.now in
@@ -67,8 +67,8 @@ returns-then-count-list g c =
 
 pub returns : goal.returns
 returns g c =
-    let m = g.G.Ground.meaning c.args.ground.now in
-    let law : Lawful m = g.G.Ground.lawful c.args.ground.now in
+    let m = g.G.Ground.meaning c.args.site.now in
+    let law : Lawful m = g.G.Ground.lawful c.args.site.now in
     let o = c.args.self.now.header in
     let h = c.in_ok-header.header in
     let costs = c.args.costs.now in

@@ -13,8 +13,8 @@ use Rattle.plan.proofs.plan.Plan.search.Goals as goal
 
 pub returns-then-made : goal.returns-then-made
 returns-then-made g c =
-    let m = g.G.Ground.meaning c.args.ground.now in
-    let law : Lawful m = g.G.Ground.lawful c.args.ground.now in
+    let m = g.G.Ground.meaning c.args.site.now in
+    let law : Lawful m = g.G.Ground.lawful c.args.site.now in
     let o = c.args.self.now.header in
     let h = c.in_ok-header.header in
     let costs = c.args.costs.now in
@@ -45,8 +45,8 @@ returns-then-made g c =
 
 pub returns-else-made : goal.returns-else-made
 returns-else-made g c =
-    let m = g.G.Ground.meaning c.args.ground.now in
-    let law : Lawful m = g.G.Ground.lawful c.args.ground.now in
+    let m = g.G.Ground.meaning c.args.site.now in
+    let law : Lawful m = g.G.Ground.lawful c.args.site.now in
     let o = c.args.self.now.header in
     let h = c.in_ok-header.header in
     let costs = c.args.costs.now in

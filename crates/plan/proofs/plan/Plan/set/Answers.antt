@@ -10,7 +10,7 @@ use Rattle.plan.proofs.plan.Plan.set.Goals as goal
 
 pub returns-in_err-cost : goal.returns-in_err-cost
 returns-in_err-cost g c =
-    let m = g.G.Ground.meaning c.args.ground.now in
+    let m = g.G.Ground.meaning c.args.site.now in
     let o = c.args.self.now.header in
     let h = c.in_ok-header.header in
     let b = begun_on_is o m h c.in_ok-header.ensures in
@@ -33,8 +33,8 @@ returns-in_err-cost g c =
 
 pub returns : goal.returns
 returns g c =
-    let m = g.G.Ground.meaning c.args.ground.now in
-    let lawful = g.G.Ground.lawful c.args.ground.now in
+    let m = g.G.Ground.meaning c.args.site.now in
+    let lawful = g.G.Ground.lawful c.args.site.now in
     let o = c.args.self.now.header in
     let h = c.in_ok-header.header in
     let b = begun_on_is o m h c.in_ok-header.ensures in

@@ -1,5 +1,5 @@
 use Rattle.std.proofs.Common.{◌≡◌, ◌+◌, ◌-◌, ◌*◌, arith}
-use Rattle.grid.proofs.grid.ground.GridGround.estimate.Goals as goal
+use Rattle.grid.proofs.grid.answers.GridGround.estimate.Goals as goal
 use Rattle.grid.specs.GridLaws.{gridded_lawful}
 use Rattle.grid.specs.Grids.{gridded}
 

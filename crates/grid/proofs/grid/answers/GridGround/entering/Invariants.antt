@@ -1,7 +1,7 @@
 use Rattle.std.proofs.Common.{◌≡◌, ◌-◌}
 use Rattle.std.specs.List.{slice_get}
 use Rattle.ground.proofs.Offered.{offered}
-use Rattle.grid.proofs.grid.ground.GridGround.entering.Given as goal
+use Rattle.grid.proofs.grid.answers.GridGround.entering.Given as goal
 use Rattle.grid.specs.Entries.{entering}
 
 -- what is asked for is what is left of the walk, as many offers on as are left to pass

@@ -4,8 +4,8 @@ use Rattle.ground.proofs.ArcsAt.{arcs_at-beyond}
 use Rattle.ground.proofs.Offered.{offered, walk_here, walk_past, walk_on, walk_over}
 use Rattle.ground.specs.Questions.{arcs_into}
 use Rattle.grid.proofs.Entering.{entering_are}
-use Rattle.grid.proofs.grid.ground.GridGround.entering.Goals as goal
-use Rattle.grid.proofs.grid.ground.GridGround.entering.Goals.{in-Some+else-left-eq0, in_default}
+use Rattle.grid.proofs.grid.answers.GridGround.entering.Goals as goal
+use Rattle.grid.proofs.grid.answers.GridGround.entering.Goals.{in-Some+else-left-eq0, in_default}
 use Rattle.grid.specs.Entries.{entering}
 use Rattle.grid.specs.GridLaws.{gridded_lawful}
 use Rattle.grid.specs.Grids.{gridded}

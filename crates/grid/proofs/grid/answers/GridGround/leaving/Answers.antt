@@ -5,7 +5,7 @@ use Rattle.ground.proofs.ArcsAt.{arcs_at-beyond}
 use Rattle.ground.specs.Questions.{arcs_at}
 use Rattle.grid.proofs.Entering.{few_cells}
 use Rattle.grid.proofs.Leaving.{leaving_are, leaving_at, leaving_count}
-use Rattle.grid.proofs.grid.ground.GridGround.leaving.Goals as goal
+use Rattle.grid.proofs.grid.answers.GridGround.leaving.Goals as goal
 
 pub returns-then-k-lt8 : goal.returns-then-k-lt8
 returns-then-k-lt8 c =

@@ -40,18 +40,18 @@ impl Plan {
     // Makes turns until the end test holds or the given number is made.
     pub fn search<G: Ground>(
         &mut self,
-        ground: &G,
+        site: &G,
         turns: u16,
         costs: &[u32],
         places: &mut [Place],
         queue: &mut [Entry<Key>],
     ) -> Result<Answer, Refusal>
-        ensures declined { refusal_in result ≡ search_declines self.old.header (G.Ground.meaning ground.now) turns (length costs.now) (length places.old) (length queue.old) }
+        ensures declined { refusal_in result ≡ search_declines self.old.header (G.Ground.meaning site.now) turns (length costs.now) (length places.old) (length queue.old) }
         ensures kept { Unless result (stand_of self.old costs.now places.old queue.old) (stand_of self.new costs.now places.new queue.new) }
-        ensures beyond { Beyond (G.Ground.meaning ground.now) (stand_of self.old costs.now places.old queue.old) (stand_of self.new costs.now places.new queue.new) }
-        ensures state { CarriesOut (G.Ground.meaning ground.now) (search_for turns) (heard result []) (stand_of self.old costs.now places.old queue.old) (stand_of self.new costs.now places.new queue.new) }
+        ensures beyond { Beyond (G.Ground.meaning site.now) (stand_of self.old costs.now places.old queue.old) (stand_of self.new costs.now places.new queue.new) }
+        ensures state { CarriesOut (G.Ground.meaning site.now) (search_for turns) (heard result []) (stand_of self.old costs.now places.old queue.old) (stand_of self.new costs.now places.new queue.new) }
     {
-        let header = begun_on(self.header, ground)?;
+        let header = begun_on(self.header, site)?;
         if is_short(&[
             (costs.len(), header.arcs),
             (places.len(), header.places),
@@ -63,7 +63,7 @@ impl Plan {
         let m = header.arcs as usize;
         let n = header.places as usize;
         let made = search(
-            ground,
+            site,
             header.aim,
             course.afresh,
             turns,
