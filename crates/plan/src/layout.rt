@@ -17,7 +17,7 @@ pub(crate) fn cost_least<G: Ground>(site: &G, costs: &mut [u32])
     requires { length costs.old ≡ (G.Ground.meaning site.now).arcs }
     ensures { (j : ℕ) → j < length costs.old → slice_index costs.new j ≡ (G.Ground.meaning site.now).least j }
 {
-    for arc in 0..ground.arcs() {
+    for arc in 0..site.arcs() {
         if let Some(least) = site.least(arc) {
             costs[arc as usize] = least;
         }
