@@ -4,7 +4,8 @@ fn main() {
     if std::env::var_os("CARGO_FEATURE_LIBRARY").is_none() {
         return;
     }
-    for (variable, library) in [("BENCH_ABI_DIR", "bench_abi"), ("RATTLE_C_DIR", "rattle_c")] {
+    let libraries = [("BENCH_ABI_DIR", "bench_abi"), ("RATTLE_C_DIR", "os_c"), ("RATTLE_C_DIR", "libc_c")];
+    for (variable, library) in libraries {
         let dir = std::env::var(variable).expect("start it by bench/run");
         println!("cargo:rustc-link-search=native={dir}");
         println!("cargo:rustc-link-lib=static={library}");

@@ -41,7 +41,7 @@ fn told(number: u64, value: usize) -> u64 {
     (value as u64).wrapping_mul(1 << 32).wrapping_add(number)
 }
 
-fn copy(strips: &[Strip], table: &mut [Arc]) {
+pub(crate) fn copy(strips: &[Strip], table: &mut [Arc]) {
     for (s, a) in strips.iter().zip(table.iter_mut()) {
         *a = Arc {
             tail: s.tail,

@@ -1,4 +1,5 @@
 // A whole past of a plan: calls on one ground, then on another, with one plan throughout.
+use crate::roads_calls::{Strip, copy};
 use grid::grid::Grid;
 use ground::ground::Ground;
 use pickup::pickup::Pickup;
@@ -12,25 +13,6 @@ use roads::roads::Roads;
 use search::place::Place;
 use terms::arc::Arc;
 use terms::refusal::Refusal;
-
-// An arc as Rust hands it over.
-#[repr(C)]
-#[derive(Clone, Copy)]
-pub struct Strip {
-    pub tail: u32,
-    pub head: u32,
-    pub least: u32,
-}
-
-fn copy(strips: &[Strip], table: &mut [Arc]) {
-    for (s, a) in strips.iter().zip(table.iter_mut()) {
-        *a = Arc {
-            tail: s.tail,
-            head: s.head,
-            least: s.least,
-        };
-    }
-}
 
 // Some calls in a row on one ground.
 #[repr(C)]
