@@ -14,6 +14,7 @@ use Rattle.method.specs.Choices.{better, best}
 use Rattle.method.specs.Turns.{soonest, all_of, is_none, here_after, ended, turn_taken, turn_with, turn, run}
 use Rattle.method.specs.Calls.{Call, set_cost, move_to, stretch_to, search_for, route_into, sum_over, Answer, done, settles, cuts, routes, sums, unless, standing, capped_sum, cheapest, onward, follow, route_of, set_refusal, move_refusal, stretch_refusal, sum_refusal, route_refusal, cost_set, moved, stretched, emptied, start, searched, verdict, outcome}
 use Rattle.method.specs.Agreement.{Agrees, Alike, AgreementLaw}
+use Rattle.method.proofs.Bests.{best_member}
 use Rattle.method.proofs.Members.{Member, member_kept}
 use Rattle.method.proofs.Offers.{left_by}
 
@@ -24,19 +25,6 @@ map_same f g (x ∷ xs) h = λ i. h x (inl refl) i ∷ map_same f g xs (λ y k. 
 all_same : (p q : ℕ → Bool) (xs : List ℕ) → ((x : ℕ) → Member x xs → p x ≡ q x) → all_of p xs ≡ all_of q xs
 all_same p q [] h = refl
 all_same p q (x ∷ xs) h = λ i. h x (inl refl) i && all_same p q xs (λ y k. h y (inr k)) i
-
--- the best is one of them
-best_member : (beats : ℕ → ℕ → Bool) (xs : List ℕ) (p : ℕ) → best beats xs ≡ Some p → Member p xs
-best_member beats [] p e = absurd (let z : ◌≡◌ {A = ℕ} 0 1 = cc in omega arith)
-best_member beats (x ∷ xs) p e = go (best beats xs) refl e (best_member beats xs)
-  where
-    choose : (y : ℕ) → Member y xs → (b : Bool) → cond b (Some y) (Some x) ≡ Some p → Member p (x ∷ xs)
-    choose y h true e = let same : p ≡ y = cc in inr (subst (λ q. Member q xs) (sym same) h)
-    choose y h false e = let same : p ≡ x = cc in inl same
-
-    go : (r : Option ℕ) → best beats xs ≡ r → better beats x r ≡ Some p → ((y : ℕ) → best beats xs ≡ Some y → Member y xs) → Member p (x ∷ xs)
-    go None n e more = let same : p ≡ x = cc in inl same
-    go (Some y) n e more = choose y (more y n) (beats y x) e
 
 best_same : (a b : ℕ → ℕ → Bool) (xs : List ℕ) → ((x y : ℕ) → Member x xs → Member y xs → a x y ≡ b x y) → best a xs ≡ best b xs
 best_same a b [] h = refl

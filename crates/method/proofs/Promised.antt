@@ -37,9 +37,9 @@ module _ (m : Meaning) (law : Lawful m) (b : Begin) (past : Past) (s : State) (r
     subst (λ c. AllByRecursion (λ j. c j < far) js) (sym costs) o.1,
   )
 
-  module _ (said_settled : settled_in past ≡ true) where
+  module _ (was_settled : settled_in past ≡ true) where
     phase_settled : is_settled s.phase ≡ true
-    phase_settled = r.settled_is ∙ said_settled
+    phase_settled = r.settled_is ∙ was_settled
 
     sound : Sound m s
     sound = r.in_pass (not_changed s.phase phase_settled)
@@ -200,8 +200,8 @@ count_few m law b acc past told = go (is_changed s.phase) (spent_few m law b pas
 
 pub route_promise : RoutePromiseHolds
 route_promise m law = record {
-  keeps_slack = λ b acc past entries answer told said_settled. slack_kept m law b past (state_after m b past) (reached m law b acc past told.1) said_settled entries answer told.0;
-  no_way = λ b acc past entries answer told said_settled. no_way_is_none m law b past (state_after m b past) (reached m law b acc past told.1) said_settled entries answer told.0;
+  keeps_slack = λ b acc past entries answer told was_settled. slack_kept m law b past (state_after m b past) (reached m law b acc past told.1) was_settled entries answer told.0;
+  no_way = λ b acc past entries answer told was_settled. no_way_is_none m law b past (state_after m b past) (reached m law b acc past told.1) was_settled entries answer told.0;
   few_turns = λ b acc newer stretch older told quiet. stretch_few m law b acc newer stretch older told quiet;
   settles_in_time = λ b acc past turns answer told enough ok. says_settled m law b past (state_after m b past) (reached m law b acc past told.1) turns enough answer told.0;
 }
