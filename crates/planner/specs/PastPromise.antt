@@ -11,7 +11,7 @@ pub record PastPromise (m : Meaning) (b : Begin) (past : Past) : Type 0 where
   -- where the latest call is a Route and the plan was settled
   pub keeps_slack : (older : Past) (entries : ℕ) (answer : Answer) → past ≡ called (route_into entries) answer ∷ older → settled_in older ≡ true → KeepsSlack m b older entries answer
   pub no_way : (older : Past) (entries : ℕ) (answer : Answer) → past ≡ called (route_into entries) answer ∷ older → settled_in older ≡ true → NoWayIsNoWay m b older answer
-  -- c. over any stretch of the past in which nothing altered the plan, the turns answered add up to at most twice the places
+  -- over any stretch of the past in which nothing altered the plan, the turns answered add up to at most twice the places
   pub few_turns : (newer stretch older : Past) → past ≡ newer ++ (stretch ++ older) → AllByRecursion (λ e. alters e ≡ false) stretch → turns_in stretch ≤ 2 * m.places
   -- and an accepted Search given at least that many turns says Settled
   pub settles_in_time : (older : Past) (turns : ℕ) (answer : Answer) → past ≡ called (search_for turns) answer ∷ older → 2 * m.places ≤ turns → accepted answer ≡ true → (made : ℕ) × (count : ℕ) × (answer ≡ settles made count)
