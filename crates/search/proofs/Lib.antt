@@ -6,6 +6,8 @@ pub mod Dues
 pub mod Runs
 pub mod Starts
 pub mod Walking
+pub mod Picking
+pub mod OneTask
 pub mod Asking
 pub mod Agreeing
 pub mod Writing

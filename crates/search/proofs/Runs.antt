@@ -87,12 +87,12 @@ module _ (m : Meaning) (aim : Aim) (costs : List ℕ) (turns : ℕ) (places : Li
     }
 
     -- the end test holds before all turns are made
-    pub stops_early : (InStep m aim costs places' es' → (s : State) → Shows m s aim costs places' → Due m s None) → RunMade m aim costs turns places es places' es₁ (record { settled = true; turns = made })
-    stops_early due = stops (record { settled = true; turns = made }) refl (λ st s sh r.
+    pub stops_early : (n : ℕ) → n ≡ made → (InStep m aim costs places' es' → (s : State) → Shows m s aim costs places' → Due m s None) → RunMade m aim costs turns places es places' es₁ (record { settled = true; turns = n })
+    stops_early n is due = stops (record { settled = true; turns = n }) is (λ st s sh r.
         let e = due (u.in_step st) r.state r.shows in
         (r.goes_on (turns - made) (omega (arith, u.few)) ∙ run_ended m (turns - made) r.state e, sym e))
 
     -- all turns are made
-    pub stops_late : (settled : Bool) → turns ≤ made → (InStep m aim costs places' es' → (s : State) → Shows m s aim costs places' → settled ≡ ended m s) → RunMade m aim costs turns places es places' es₁ (record { settled = settled; turns = made })
-    stops_late settled all due = stops (record { settled = settled; turns = made }) refl (λ st s sh r.
+    pub stops_late : (n : ℕ) → n ≡ made → (settled : Bool) → turns ≤ made → (InStep m aim costs places' es' → (s : State) → Shows m s aim costs places' → settled ≡ ended m s) → RunMade m aim costs turns places es places' es₁ (record { settled = settled; turns = n })
+    stops_late n is settled all due = stops (record { settled = settled; turns = n }) is (λ st s sh r.
         (r.goes_on 0 (omega (arith, u.few)) ∙ run_none m r.state, due (u.in_step st) r.state r.shows))

@@ -1,20 +1,21 @@
 // What arcs offer the place that they leave.
-ghost use Rattle.std.specs.Prelude.{◌≡◌, ◌<◌, map, MatchOption};
+ghost use Rattle.std.specs.Prelude.{◌≡◌, map, MatchOption};
 ghost use Rattle.ground.specs.Questions.{arcs_from};
 ghost use Rattle.method.specs.Calls.{cheapest};
 ghost use Rattle.method.specs.Values.{rhs, smallest};
-ghost use Rattle.search.specs.Tables.{offered, Sized, told};
+ghost use Rattle.search.specs.Tables.{offer_of, offered, Sized, told};
 
 use crate::place::Place;
 use crate::task::Task;
+use ground::around::leaving;
 use ground::ground::Ground;
 use terms::amount::{FAR, capped_sum};
 
 // A task and the records of its ground's places, with just one entry for each arc and each place.
 #[derive(Drop)]
 pub struct Offers<'t, G: Ground> {
-    pub(crate) task: &'t Task<'t, G>,
-    pub(crate) places: &'t [Place],
+    pub task: &'t Task<'t, G>,
+    pub places: &'t [Place],
     ghost sized: { Sized (G.Ground.meaning task.now.site.now) task.now.costs.now places.now },
 }
 
@@ -32,10 +33,9 @@ impl<'t, G: Ground> Offers<'t, G> {
         }
     }
 
-    // The way over an arc: its cost and the value of its head.
+    // The way over an arc: its cost and the value of its head; Far over none.
     fn over(&self, arc: u32) -> u32
-        requires { arc < (G.Ground.meaning self.now.task.now.site.now).arcs }
-        ensures { result ≡ offered (G.Ground.meaning self.now.task.now.site.now) self.now.task.now.costs.now self.now.places.now arc }
+        ensures { result ≡ offer_of (G.Ground.meaning self.now.task.now.site.now) self.now.task.now.costs.now self.now.places.now arc }
     {
         match self.task.site.head(arc) {
             Some(head) => capped_sum(self.task.costs[arc as usize], self.places[head as usize].g),
@@ -47,13 +47,10 @@ impl<'t, G: Ground> Offers<'t, G> {
     fn smallest(&self, p: u32) -> u32
         ensures { result ≡ smallest (map (offered (G.Ground.meaning self.now.task.now.site.now) self.now.task.now.costs.now self.now.places.now) (arcs_from (G.Ground.meaning self.now.task.now.site.now) p)) }
     {
-        let mut least = FAR;
-        let mut k = 0;
-        while let Some(arc) = self.task.site.leaving(p, k) {
-            least = least.min(self.over(arc));
-            k += 1;
-        }
-        least
+        leaving(self.task.site, p)
+            .map(|arc| self.over(arc))
+            .min()
+            .unwrap_or(FAR)
     }
 
     // The rhs of a place, from the costs and values as they stand.
@@ -71,17 +68,6 @@ impl<'t, G: Ground> Offers<'t, G> {
     pub fn cheapest(&self, p: u32) -> Option<u32>
         ensures { result ≡ cheapest (offered (G.Ground.meaning self.now.task.now.site.now) self.now.task.now.costs.now self.now.places.now) (arcs_from (G.Ground.meaning self.now.task.now.site.now) p) }
     {
-        let mut best = self.task.site.leaving(p, 0)?;
-        let mut least = self.over(best);
-        let mut k = 1;
-        while let Some(arc) = self.task.site.leaving(p, k) {
-            let way = self.over(arc);
-            if way < least {
-                best = arc;
-                least = way;
-            }
-            k += 1;
-        }
-        Some(best)
+        leaving(self.task.site, p).min_by_key(|arc| self.over(*arc))
     }
 }

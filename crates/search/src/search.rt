@@ -46,8 +46,5 @@ pub fn search<G: Ground>(
         places,
         entries,
     };
-    if afresh {
-        tables.start_afresh();
-    }
-    tables.run(turns)
+    tables.search(afresh, turns)
 }

@@ -1,14 +1,16 @@
 // One turn of a search.
-ghost use Rattle.std.specs.Prelude.{◌<◌, true};
+ghost use Rattle.std.specs.Prelude.{◌≡◌, ◌<◌, true};
+ghost use Rattle.method.specs.Values.{rhs};
 ghost use Rattle.search.specs.Same.{Same};
 ghost use Rattle.search.specs.Steps.{TurnMade};
-ghost use Rattle.search.specs.Tables.{place_at};
+ghost use Rattle.search.specs.Tables.{place_at, told};
 ghost use Rattle.search.specs.Turning.{Lowered, Raised, StaysSynced, Turned};
 ghost use Rattle.terms.specs.Amounts.{far};
 
 use crate::offers::Offers;
 use crate::place::Place;
 use crate::tables::Tables;
+use ground::around::entering;
 use ground::ground::Ground;
 use terms::amount::{FAR, capped_sum};
 
@@ -30,6 +32,17 @@ impl<'t, G: Ground> Tables<'t, G> {
         }
     }
 
+    // The rhs of a place, from the costs and values as they stand.
+    fn rhs(&self, p: u32) -> u32
+        ensures { result ≡ rhs (G.Ground.meaning self.now.task.now.site.now) (told self.now.task.now.aim self.now.task.now.costs.now self.now.places.now) p }
+    {
+        let offers = Offers {
+            task: self.task,
+            places: self.places,
+        };
+        offers.rhs(p)
+    }
+
     // The value of an arc's head rose from this to Far: the rhs of its tail is computed anew if it rested on that.
     fn raise(&mut self, arc: u32, value: u32)
         requires { arc < (G.Ground.meaning self.old.task.now.site.now).arcs }
@@ -42,11 +55,7 @@ impl<'t, G: Ground> Tables<'t, G> {
         };
         let place = self.places[tail as usize];
         if place.rhs == capped_sum(self.task.costs[arc as usize], value) {
-            let offers = Offers {
-                task: self.task,
-                places: self.places,
-            };
-            let rhs = offers.rhs(tail);
+            let rhs = self.rhs(tail);
             self.store(tail, Place { rhs, ..place });
         }
     }
@@ -69,10 +78,8 @@ impl<'t, G: Ground> Tables<'t, G> {
                 ..place
             },
         );
-        let mut k = 0;
-        while let Some(arc) = self.task.site.entering(p, k) {
+        for arc in entering(self.task.site, p) {
             self.lower(arc, value);
-            k += 1;
         }
     }
 
@@ -86,10 +93,8 @@ impl<'t, G: Ground> Tables<'t, G> {
         let place = self.places[p as usize];
         let value = place.g;
         self.store(p, Place { g: FAR, ..place });
-        let mut k = 0;
-        while let Some(arc) = self.task.site.entering(p, k) {
+        for arc in entering(self.task.site, p) {
             self.raise(arc, value);
-            k += 1;
         }
     }
 
