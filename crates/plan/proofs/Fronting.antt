@@ -1,7 +1,7 @@
 -- Tables that agree on the ground's arcs and places. Assumes nothing.
 use Rattle.std.proofs.Common.{◌≡◌, ℕ, ◌-◌, ◌<◌, ◌≤◌, List, ◌++◌, length, get_or, take, drop, sym, refl, ap, ◌∙◌, ap₂, arith, length-append, length-take}
 use borrow.Rule.Slice.PartMut.{post_of}
-use Rattle.std.proofs.lemmas.List.{get_or_append_left, get_or-take, drop_at}
+use Rattle.std.proofs.lemmas.List.{get_or_append_left, get_or-take, drop_at, take-append-le, take_all}
 use Rattle.terms.specs.Amounts.{◌⊕◌}
 use Rattle.ground.specs.Meanings.{Meaning, Lawful}
 use Rattle.method.specs.States.{State}
@@ -75,6 +75,9 @@ module _ {A : Type 0} (n : ℕ) (xs : List A) where
 
     pub front_rest_at : (k : ℕ) → n ≡ k → drop k (ys ++ post_of 0 (n - 0) xs) ≡ drop k xs
     front_rest_at k e = ap (λ i. drop i (ys ++ post_of 0 (n - 0) xs)) (sym e) ∙ front_rest ∙ ap (λ i. drop i xs) e
+
+    pub front_is : take n (ys ++ post_of 0 (n - 0) xs) ≡ ys
+    front_is = take-append-le n ys (post_of 0 (n - 0) xs) (omega arith) ∙ take_all n ys (omega arith)
 
     pub front_size : n ≤ length xs → n ≤ length (ys ++ post_of 0 (n - 0) xs)
     front_size h = omega (arith, length-append ys (post_of 0 (n - 0) xs))
