@@ -5,13 +5,13 @@ use ground::ground::Ground;
 use pickup::pickup::Pickup;
 use plan::answer::Answer;
 use plan::plan::Plan;
-use planner::call::Call;
 use planner::carry_out::carry_out;
 use queue::entry::Entry;
 use queue::key::Key;
 use roads::roads::Roads;
 use search::place::Place;
 use terms::arc::Arc;
+use terms::call::Call;
 use terms::refusal::Refusal;
 
 // Some calls in a row on one ground.
@@ -82,7 +82,7 @@ fn cut<T>(whole: &[T], from: u32, to: u32) -> &[T] {
     &whole[from..to]
 }
 
-fn call_of<'a>(ask: &Ask, listed: &'a [u32]) -> Call<'a> {
+fn call_of<'a>(ask: &Ask, listed: &'a [u32]) -> Call<&'a [u32]> {
     match ask.kind {
         0 => Call::Begin {
             here: ask.first,
