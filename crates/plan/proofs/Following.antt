@@ -1,6 +1,6 @@
 -- The steps of a route, one arc at a time. Assumes nothing.
-use Rattle.std.proofs.Common.{◌≡◌, ℕ, zero, suc, ◌+◌, ◌-◌, ◌<◌, ◌≤◌, Bool, true, false, cond, eqb, ltb, List, [], ◌∷◌, ◌++◌, length, get_or, take, set, Some, None, Option, sym, refl, ap, ◌∙◌, inl, inr, append_assoc, append-nil, arith, length-append}
-use Rattle.std.proofs.lemmas.List.{length-set, length-take-le, take_all, take_more_set}
+use Rattle.std.proofs.Common.{◌≡◌, ℕ, zero, suc, ◌+◌, ◌-◌, ◌<◌, ◌≤◌, Bool, true, false, cond, eqb, ltb, List, [], ◌∷◌, ◌++◌, length, get_or, take, set, Some, None, Option, sym, refl, ap, ◌∙◌, inl, inr, append_assoc, arith, length-append}
+use Rattle.std.proofs.lemmas.List.{length-set, length-take-le, take_more_set}
 use Rattle.std.proofs.lemmas.Bool.{cases_lt}
 use Rattle.ground.specs.Meanings.{Meaning}
 use Rattle.ground.specs.Questions.{arcs_from}
@@ -8,7 +8,7 @@ use Rattle.terms.specs.Amounts.{far, ◌⊕◌}
 use Rattle.method.specs.Calls.{capped_sum, cheapest, follow, onward}
 use Rattle.method.proofs.Offers.{left_by}
 use Rattle.method.proofs.Bests.{best_member}
-use Rattle.plan.proofs.Totals.{capped_assoc, capped_zero, sum_start}
+use Rattle.plan.proofs.Totals.{capped_assoc, sum_start}
 use Rattle.search.specs.Tables.{offered, told}
 use Rattle.search.specs.declared.aim.Aim.{Aim}
 use Rattle.search.specs.declared.place.Place.{Place}
@@ -94,16 +94,6 @@ module _ (m : Meaning) (aim : Aim) (costs : List ℕ) (places : List Place) (lis
     nothing : (xs : List ℕ) → length xs ≡ 0 → xs ≡ []
     nothing [] e = refl
     nothing (x ∷ xs) e = absurd (omega arith)
-
-    pub written_all : k ≡ length list → Written m aim costs places list list' sum
-    written_all same =
-        let whole : take k list' ≡ list' = take_all k list' (omega (arith, w.size)) in
-        let done : length list ≡ length (route_in m aim costs places) → follow m (told aim costs places) (m.places - k) p ≡ [] =
-        λ e. nothing (follow m (told aim costs places) (m.places - k) p) (omega (arith, w.size, ap length (w.front e), length-append (take k list') (follow m (told aim costs places) (m.places - k) p), length-take-le k list' (omega (arith, w.size)))) in
-        record {
-          listed = λ e. sym whole ∙ sym (append-nil (take k list')) ∙ ap (λ xs. take k list' ++ xs) (sym (done e)) ∙ sym (w.front e);
-          summed = λ e. sym (w.summed e ∙ ap (λ xs. sum ⊕ capped_sum (λ i. get_or costs i 0) xs) (done e) ∙ capped_zero sum w.low);
-        }
 
 -- the arc with the smallest offer is an arc
 pub best_in : (m : Meaning) (costs : List ℕ) (places : List Place) (p j : ℕ) → cheapest (offered m costs places) (arcs_from m p) ≡ Some j → j < m.arcs

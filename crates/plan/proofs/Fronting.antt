@@ -30,9 +30,6 @@ pub record SameFront (m : Meaning) (costs : List ℕ) (places : List Place) (cos
   pub same_costs : (j : ℕ) → j < m.arcs → get_or costs' j 0 ≡ get_or costs j 0
   pub same_places : (p : ℕ) → p < m.places → place_at places' p ≡ place_at places p
 
-pub same_front_back : (m : Meaning) (costs : List ℕ) (places : List Place) (costs' : List ℕ) (places' : List Place) → SameFront m costs places costs' places' → SameFront m costs' places' costs places
-same_front_back m costs places costs' places' same = record { same_costs = λ j h. sym (same.same_costs j h); same_places = λ p h. sym (same.same_places p h) }
-
 module _ (m : Meaning) (lawful : Lawful m) (aim : Aim) (costs : List ℕ) (places : List Place) (costs' : List ℕ) (places' : List Place) (same : SameFront m costs places costs' places') where
   pub same_rhs : (p : ℕ) → rhs m (told aim costs' places') p ≡ rhs m (told aim costs places) p
   same_rhs p = rhs_agrees m (told aim costs places) (told aim costs' places') refl (λ j h. ap₂ ◌⊕◌ (same.same_costs j h) (ap (λ (x : Place). x.g) (same.same_places (m.head j) (lawful.head_in j h)))) p

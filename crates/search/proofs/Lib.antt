@@ -1,5 +1,3 @@
-pub mod QueueSide
-pub mod Reopening
 pub mod Ranks
 pub mod Shown
 pub mod Dues

@@ -50,13 +50,6 @@ module _ (m : Meaning) (aim : Aim) (costs : List ℕ) (turns : ℕ) (places : Li
     pub in_step : InStep m aim costs places es → InStep m aim costs places' es'
     pub reaches : InStep m aim costs places es → (s : State) → Shows m s aim costs places → Reached made places' s
 
-  pub set_out : UnderWay 0 places es
-  set_out = record {
-    few = omega arith;
-    in_step = λ st. st;
-    reaches = λ st s sh. record { state = s; shows = sh; counted = omega arith; goes_on = λ left e. ap (λ (z : ℕ). run m z s) (omega arith) };
-  }
-
   module _ (made : ℕ) (places' : List Place) (es' es₁ : List (Entry Key)) (same : es₁ ≡ es') (u : UnderWay made places' es') where
     -- the queue was asked, and is as it was
     in_step₁ : InStep m aim costs places es → InStep m aim costs places' es₁
