@@ -1,17 +1,19 @@
 // A whole past of a plan: calls on one ground, then on another, with one plan throughout.
+ghost use Rattle.std.specs.Prelude.{⊤};
+
 use crate::roads_calls::{Strip, copy};
 use grid::grid::Grid;
 use ground::ground::Ground;
 use pickup::pickup::Pickup;
 use plan::answer::Answer;
 use plan::plan::Plan;
-use planner::call::Call;
 use planner::carry_out::carry_out;
 use queue::entry::Entry;
 use queue::key::Key;
 use roads::roads::Roads;
 use search::place::Place;
 use terms::arc::Arc;
+use terms::call::Call;
 use terms::refusal::Refusal;
 
 // Some calls in a row on one ground.
@@ -67,11 +69,15 @@ const ARCS: usize = 131_073;
 
 const PLACES: usize = 16_400;
 
+// A plan with its tables, and what its calls read from and write into.
 #[derive(Drop)]
-struct Desk {
+struct Desk<'a> {
     plan: Plan,
     places: [Place; PLACES],
     queue: [Entry<Key>; PLACES],
+    costs: &'a mut [u32],
+    listed: &'a [u32],
+    list: &'a mut [u32],
     // how many entries of the list the routes take so far
     taken: usize,
 }
@@ -82,150 +88,129 @@ fn cut<T>(whole: &[T], from: u32, to: u32) -> &[T] {
     &whole[from..to]
 }
 
-fn call_of<'a>(ask: &Ask, listed: &'a [u32]) -> Call<'a> {
-    match ask.kind {
-        0 => Call::Begin {
-            here: ask.first,
-            landing: ask.second,
-            slack: ask.third,
-        },
-        1 => Call::Set {
-            arc: ask.first,
-            cost: ask.second,
-        },
-        2 => Call::Move { place: ask.first },
-        3 => Call::Stretch { slack: ask.first },
-        4 => Call::Search {
-            turns: (ask.first & 0xffff) as u16,
-        },
-        5 => Call::Route,
-        _ => Call::Sum {
-            arcs: cut(listed, ask.first, ask.second),
-        },
-    }
-}
-
-fn say(kind: u32, first: u32, second: u32) -> Told {
-    Told {
-        kind,
-        first,
-        second,
-    }
-}
-
-fn say_of(answer: Result<Answer, Refusal>) -> Told {
-    match answer {
-        Ok(Answer::Done) => say(0, 0, 0),
-        Ok(Answer::Settled { turns, count }) => say(1, turns, count),
-        Ok(Answer::Cut { turns, count }) => say(2, turns, count),
-        Ok(Answer::Route { arcs, sum }) => say(3, arcs.min(0xffff_ffff) as u32, sum),
-        Ok(Answer::Sum(sum)) => say(4, sum, 0),
-        Err(refusal) => say(5, refusal.number(), 0),
-    }
-}
-
-fn carried<G: Ground>(
-    ground: &G,
-    ask: &Ask,
-    listed: &[u32],
-    desk: &mut Desk,
-    costs: &mut [u32],
-    list: &mut [u32],
-) -> Told {
-    let few_costs = (ask.costs as usize).min(costs.len());
-    let few_places = (ask.places as usize).min(PLACES);
-    let few_queue = (ask.queue as usize).min(PLACES);
-    let from = desk.taken.min(list.len());
-    let to = from + (ask.list as usize).min(list.len() - from);
-    let answer = say_of(carry_out(
-        &mut desk.plan,
-        ground,
-        call_of(ask, listed),
-        &mut costs[0..few_costs],
-        &mut desk.places[0..few_places],
-        &mut desk.queue[0..few_queue],
-        &mut list[from..to],
-    ));
-    if answer.kind == 3 {
-        desk.taken = from.saturating_add(answer.first as usize);
-    }
-    answer
-}
-
-fn run<G: Ground>(
-    ground: &G,
-    asks: &[Ask],
-    listed: &[u32],
-    desk: &mut Desk,
-    costs: &mut [u32],
-    list: &mut [u32],
-    answers: &mut [Told],
-) {
-    for (ask, answer) in asks.iter().zip(answers.iter_mut()) {
-        *answer = carried(ground, ask, listed, desk, costs, list);
-    }
-}
-
-fn layered<G: Ground>(
-    ground: &G,
-    stretch: &Stretch,
-    asks: &[Ask],
-    listed: &[u32],
-    desk: &mut Desk,
-    costs: &mut [u32],
-    list: &mut [u32],
-    answers: &mut [Told],
-) {
-    let one = Pickup::new(ground, stretch.lower);
-    match stretch.layers {
-        0 => run(ground, asks, listed, desk, costs, list, answers),
-        1 => run(&one, asks, listed, desk, costs, list, answers),
-        _ => {
-            let two = Pickup::new(&one, stretch.upper);
-            run(&two, asks, listed, desk, costs, list, answers);
+impl Ask {
+    fn call<'a>(&self, listed: &'a [u32]) -> Call<&'a [u32]> {
+        // The kinds are numbers, since Rust hands them over.
+        match self.kind {
+            0 => Call::Begin {
+                here: self.first,
+                landing: self.second,
+                slack: self.third,
+            },
+            1 => Call::Set {
+                arc: self.first,
+                cost: self.second,
+            },
+            2 => Call::Move { place: self.first },
+            3 => Call::Stretch { slack: self.first },
+            4 => Call::Search {
+                turns: (self.first & 0xffff) as u16,
+            },
+            5 => Call::Route,
+            _ => Call::Sum {
+                arcs: cut(listed, self.first, self.second),
+            },
         }
     }
 }
 
-fn on_grid(
-    stretch: &Stretch,
-    asks: &[Ask],
-    listed: &[u32],
-    desk: &mut Desk,
-    costs: &mut [u32],
-    list: &mut [u32],
-    answers: &mut [Told],
-) {
-    if let Ok(grid) = Grid::new(stretch.first, stretch.second, stretch.third) {
-        layered(&grid, stretch, asks, listed, desk, costs, list, answers);
+impl Told {
+    fn new(kind: u32, first: u32, second: u32) -> Told {
+        Told {
+            kind,
+            first,
+            second,
+        }
     }
 }
 
-fn on_roads(
-    stretch: &Stretch,
-    arcs: &[Arc],
-    heights: &[u32],
-    asks: &[Ask],
-    listed: &[u32],
-    desk: &mut Desk,
-    costs: &mut [u32],
-    list: &mut [u32],
-    answers: &mut [Told],
-) {
-    let mut own = [0u32; PLACES];
-    let mut leaving = [0u32; PLACES];
-    let mut leavers = [0u32; ARCS];
-    let mut entering = [0u32; PLACES];
-    let mut enterers = [0u32; ARCS];
-    let mut roads = Roads::empty(
-        &mut own,
-        &mut leaving,
-        &mut leavers,
-        &mut entering,
-        &mut enterers,
-    );
-    if roads.load(stretch.first, arcs, heights).is_ok() {
-        layered(&roads, stretch, asks, listed, desk, costs, list, answers);
+impl From<Result<Answer, Refusal>> for Told {
+    ghost from_gives = { λ _ _. ⊤ };
+
+    fn from(answer: Result<Answer, Refusal>) -> Told {
+        match answer {
+            Ok(Answer::Done) => Told::new(0, 0, 0),
+            Ok(Answer::Settled { turns, count }) => Told::new(1, turns, count),
+            Ok(Answer::Cut { turns, count }) => Told::new(2, turns, count),
+            Ok(Answer::Route { arcs, sum }) => Told::new(3, arcs.min(0xffff_ffff) as u32, sum),
+            Ok(Answer::Sum(sum)) => Told::new(4, sum, 0),
+            Err(refusal) => Told::new(5, refusal.number(), 0),
+        }
+    }
+}
+
+impl<'a> Desk<'a> {
+    fn carry_out<G: Ground>(&mut self, ground: &G, ask: &Ask) -> Told {
+        let few_costs = (ask.costs as usize).min(self.costs.len());
+        let few_places = (ask.places as usize).min(PLACES);
+        let few_queue = (ask.queue as usize).min(PLACES);
+        let from = self.taken.min(self.list.len());
+        let to = from + (ask.list as usize).min(self.list.len() - from);
+        let answer = carry_out(
+            &mut self.plan,
+            ground,
+            ask.call(self.listed),
+            &mut self.costs[0..few_costs],
+            &mut self.places[0..few_places],
+            &mut self.queue[0..few_queue],
+            &mut self.list[from..to],
+        );
+        if let Ok(Answer::Route { arcs, .. }) = answer {
+            self.taken = from.saturating_add(arcs);
+        }
+        Told::from(answer)
+    }
+
+    fn run<G: Ground>(&mut self, ground: &G, asks: &[Ask], answers: &mut [Told]) {
+        for (ask, answer) in asks.iter().zip(answers.iter_mut()) {
+            *answer = self.carry_out(ground, ask);
+        }
+    }
+
+    fn run_layered<G: Ground>(
+        &mut self,
+        ground: &G,
+        stretch: &Stretch,
+        asks: &[Ask],
+        answers: &mut [Told],
+    ) {
+        let one = Pickup::new(ground, stretch.lower);
+        match stretch.layers {
+            0 => self.run(ground, asks, answers),
+            1 => self.run(&one, asks, answers),
+            _ => self.run(&Pickup::new(&one, stretch.upper), asks, answers),
+        }
+    }
+
+    fn run_on_grid(&mut self, stretch: &Stretch, asks: &[Ask], answers: &mut [Told]) {
+        if let Ok(grid) = Grid::new(stretch.first, stretch.second, stretch.third) {
+            self.run_layered(&grid, stretch, asks, answers);
+        }
+    }
+
+    fn run_on_roads(
+        &mut self,
+        stretch: &Stretch,
+        arcs: &[Arc],
+        heights: &[u32],
+        asks: &[Ask],
+        answers: &mut [Told],
+    ) {
+        let mut own = [0u32; PLACES];
+        let mut leaving = [0u32; PLACES];
+        let mut leavers = [0u32; ARCS];
+        let mut entering = [0u32; PLACES];
+        let mut enterers = [0u32; ARCS];
+        let mut roads = Roads::empty(
+            &mut own,
+            &mut leaving,
+            &mut leavers,
+            &mut entering,
+            &mut enterers,
+        );
+        if roads.load(stretch.first, arcs, heights).is_ok() {
+            self.run_layered(&roads, stretch, asks, answers);
+        }
     }
 }
 
@@ -260,6 +245,9 @@ pub extern "C" fn plan_run(
             first: 0,
             second: anything,
         }); PLACES],
+        costs,
+        listed,
+        list,
         taken: 0,
     };
     for stretch in stretches {
@@ -268,13 +256,11 @@ pub extern "C" fn plan_run(
         let asks = cut(asks, stretch.asks_from, stretch.asks_to);
         let answers = &mut answers[from..to];
         if stretch.kind == 0 {
-            on_grid(stretch, asks, listed, &mut desk, costs, list, answers);
+            desk.run_on_grid(stretch, asks, answers);
         } else {
             let arcs = cut(&table, stretch.strips_from, stretch.strips_to);
             let heights = cut(heights, stretch.heights_from, stretch.heights_to);
-            on_roads(
-                stretch, arcs, heights, asks, listed, &mut desk, costs, list, answers,
-            );
+            desk.run_on_roads(stretch, arcs, heights, asks, answers);
         }
     }
 }

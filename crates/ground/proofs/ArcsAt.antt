@@ -2,7 +2,8 @@
 use Rattle.std.proofs.Common.{◌≡◌, ℕ, zero, suc, ◌+◌, ◌<◌, ◌≤◌, Bool, true, false, cond, eqb, List, [], ◌∷◌, ◌++◌, map, length, Some, None, filter, sym, refl, ap, ◌∙◌, inl, inr, add-zero, zero-add, arith}
 use Rattle.std.proofs.lemmas.List.Elements.{filter-append}
 use Rattle.std.proofs.lemmas.Bool.{cases_eq, ne_eqb, eq-eqb, eqb-true, false≢true}
-use Rattle.std.specs.List.{range_with_len, slice_get}
+use Rattle.std.proofs.lemmas.Option.{slice_get-get_or}
+use Rattle.std.specs.List.{range_with_len, slice_get, slice_index_or}
 use Rattle.ground.specs.KnownLaws.{not_both, one_answer}
 use Rattle.ground.specs.Questions.{arcs_at}
 
@@ -109,6 +110,10 @@ arcs_at-few end m p = kept_few (λ j. eqb (end j) p) 0 m
 pub arcs_at-at : (end : ℕ → ℕ) (m p k j : ℕ) → slice_get (arcs_at end m p) k ≡ Some j → (j < m) × (end j ≡ p)
 unfolding arcs_at
 arcs_at-at end m p k j e = let r = kept_at (λ j. eqb (end j) p) 0 m k j e in (omega arith, eqb-true (end j) p r.2)
+
+-- and so is each of them
+pub arcs_are_there : (end : ℕ → ℕ) (m p k d : ℕ) → k < length (arcs_at end m p) → slice_index_or (arcs_at end m p) k d < m
+arcs_are_there end m p k d h = (arcs_at-at end m p k _ (slice_get-get_or (arcs_at end m p) k d h)).0
 
 -- an arc that is there is listed
 pub arcs_at-has : (end : ℕ → ℕ) (m p j : ℕ) → j < m → end j ≡ p → (k : ℕ) × (k < length (arcs_at end m p)) × (slice_get (arcs_at end m p) k ≡ Some j)

@@ -1,3 +1,4 @@
 pub mod ArcsAt
+pub mod Coming
 pub mod Offered
 pub mod Walks

@@ -1,6 +1,6 @@
 -- The steps of a route, one arc at a time. Assumes nothing.
-use Rattle.std.proofs.Common.{◌≡◌, ℕ, zero, suc, ◌+◌, ◌-◌, ◌<◌, ◌≤◌, Bool, true, false, cond, eqb, ltb, List, [], ◌∷◌, ◌++◌, length, get_or, take, drop, set, Some, None, Option, sym, refl, ap, ◌∙◌, inl, inr, append_assoc, append-nil, arith, length-append}
-use Rattle.std.proofs.lemmas.List.{drop-set-lt, length-take-le, take_more_set}
+use Rattle.std.proofs.Common.{◌≡◌, ℕ, zero, suc, ◌+◌, ◌-◌, ◌<◌, ◌≤◌, Bool, true, false, cond, eqb, ltb, List, [], ◌∷◌, ◌++◌, length, get_or, take, set, Some, None, Option, sym, refl, ap, ◌∙◌, inl, inr, append_assoc, arith, length-append}
+use Rattle.std.proofs.lemmas.List.{length-set, length-take-le, take_more_set}
 use Rattle.std.proofs.lemmas.Bool.{cases_lt}
 use Rattle.ground.specs.Meanings.{Meaning}
 use Rattle.ground.specs.Questions.{arcs_from}
@@ -8,7 +8,7 @@ use Rattle.terms.specs.Amounts.{far, ◌⊕◌}
 use Rattle.method.specs.Calls.{capped_sum, cheapest, follow, onward}
 use Rattle.method.proofs.Offers.{left_by}
 use Rattle.method.proofs.Bests.{best_member}
-use Rattle.plan.proofs.Totals.{capped_assoc, capped_zero, sum_start}
+use Rattle.plan.proofs.Totals.{capped_assoc, sum_start}
 use Rattle.search.specs.Tables.{offered, told}
 use Rattle.search.specs.declared.aim.Aim.{Aim}
 use Rattle.search.specs.declared.place.Place.{Place}
@@ -45,73 +45,55 @@ module _ (m : Meaning) (aim : Aim) (costs : List ℕ) (places : List Place) wher
   follow_none p = refl
 
 -- So many arcs of the route are written, the rest goes on from this place, and this is what they sum up to.
-pub record WrittenTo (m : Meaning) (aim : Aim) (costs : List ℕ) (places : List Place) (count : ℕ) (list list' : List ℕ) (k p sum : ℕ) : Type 0 where
-  pub front : count ≡ length (route_in m aim costs places) → route_in m aim costs places ≡ take k list' ++ follow m (told aim costs places) (m.places - k) p
-  pub summed : count ≡ length (route_in m aim costs places) → capped_sum (λ j. get_or costs j 0) (route_in m aim costs places) ≡ sum ⊕ capped_sum (λ j. get_or costs j 0) (follow m (told aim costs places) (m.places - k) p)
+pub record WrittenTo (m : Meaning) (aim : Aim) (costs : List ℕ) (places : List Place) (list list' : List ℕ) (k p sum : ℕ) : Type 0 where
+  pub size : length list' ≡ length list
+  pub front : length list ≡ length (route_in m aim costs places) → route_in m aim costs places ≡ take k list' ++ follow m (told aim costs places) (m.places - k) p
+  pub summed : length list ≡ length (route_in m aim costs places) → capped_sum (λ j. get_or costs j 0) (route_in m aim costs places) ≡ sum ⊕ capped_sum (λ j. get_or costs j 0) (follow m (told aim costs places) (m.places - k) p)
   pub low : sum ≤ far
-  pub rest : drop count list' ≡ drop count list
 
-module _ (m : Meaning) (aim : Aim) (costs : List ℕ) (places : List Place) (count : ℕ) (list : List ℕ) where
-  route : List ℕ
-  route = route_in m aim costs places
-
-  further : ℕ → ℕ → List ℕ
-  further k p = follow m (told aim costs places) (m.places - k) p
-
-  cost : ℕ → ℕ
-  cost j = get_or costs j 0
-
-  pub written_none : WrittenTo m aim costs places count list list 0 aim.here 0
+module _ (m : Meaning) (aim : Aim) (costs : List ℕ) (places : List Place) (list : List ℕ) where
+  pub written_none : WrittenTo m aim costs places list list 0 aim.here 0
   written_none =
       let e : m.places ≡ m.places - 0 = omega arith in
       record {
+        size = refl;
         front = λ _. ap (λ a. follow m (told aim costs places) a aim.here) e;
         summed = λ _. sum_start (λ j. get_or costs j 0) (route_in m aim costs places) ∙ ap (λ a. 0 ⊕ capped_sum (λ j. get_or costs j 0) (follow m (told aim costs places) a aim.here)) e;
         low = omega arith;
-        rest = refl;
       }
 
-  module _ (list' : List ℕ) (k p sum : ℕ) (w : WrittenTo m aim costs places count list list' k p sum) where
+  module _ (list' : List ℕ) (k p sum : ℕ) (w : WrittenTo m aim costs places list list' k p sum) where
     -- while arcs are missing, the ground has not run out of places
-    room : k < count → k ≤ length list' → count ≡ length (route_in m aim costs places) → m.places - k ≡ suc (m.places - (k + 1))
-    room h r e = elim (cases_lt k m.places) [
+    room : k < length list → length list ≡ length (route_in m aim costs places) → m.places - k ≡ suc (m.places - (k + 1))
+    room h e = elim (cases_lt k m.places) [
       | inl l ↦ omega arith
       | inr l ↦
           let z : m.places - k ≡ 0 = omega arith in
-          absurd (omega (arith, ap length (w.front e), length-append (take k list') (follow m (told aim costs places) (m.places - k) p), length-take-le k list' r, ap (λ a. length (follow m (told aim costs places) a p)) z, ap length (follow_none m aim costs places p)))
+          absurd (omega (arith, w.size, ap length (w.front e), length-append (take k list') (follow m (told aim costs places) (m.places - k) p), length-take-le k list' (omega (arith, w.size)), ap (λ a. length (follow m (told aim costs places) a p)) z, ap length (follow_none m aim costs places p)))
     ]
 
-    pub written_more : k < count → k < length list' → (j h sum' : ℕ) → step_from m aim.landing costs places p ≡ Some (j, h) → sum' ≡ sum ⊕ get_or costs j 0 → WrittenTo m aim costs places count list (set list' k j) (k + 1) h sum'
-    written_more below fits j h sum' s is =
-        let go : count ≡ length (route_in m aim costs places) → follow m (told aim costs places) (m.places - k) p ≡ j ∷ follow m (told aim costs places) (m.places - (k + 1)) h =
-        λ e. follow_step m aim costs places p (m.places - k) (m.places - (k + 1)) j h (room below (omega arith) e) s in
+    pub written_more : k < length list → (j h sum' : ℕ) → step_from m aim.landing costs places p ≡ Some (j, h) → sum' ≡ sum ⊕ get_or costs j 0 → (list'' : List ℕ) → list'' ≡ set list' k j → WrittenTo m aim costs places list list'' (k + 1) h sum'
+    written_more below j h sum' s is list'' put =
+        let fits : k < length list' = omega (arith, w.size) in
+        let go : length list ≡ length (route_in m aim costs places) → follow m (told aim costs places) (m.places - k) p ≡ j ∷ follow m (told aim costs places) (m.places - (k + 1)) h =
+        λ e. follow_step m aim costs places p (m.places - k) (m.places - (k + 1)) j h (room below e) s in
         record {
-          front = λ e. w.front e ∙ ap (λ xs. take k list' ++ xs) (go e) ∙ sym (append_assoc (take k list') (j ∷ []) (follow m (told aim costs places) (m.places - (k + 1)) h)) ∙ ap (λ xs. xs ++ follow m (told aim costs places) (m.places - (k + 1)) h) (sym (take_more_set list' k j fits));
+          size = ap length put ∙ length-set list' k j ∙ w.size;
+          front = λ e. w.front e ∙ ap (λ xs. take k list' ++ xs) (go e) ∙ sym (append_assoc (take k list') (j ∷ []) (follow m (told aim costs places) (m.places - (k + 1)) h)) ∙ ap (λ xs. xs ++ follow m (told aim costs places) (m.places - (k + 1)) h) (sym (ap (take (k + 1)) put ∙ take_more_set list' k j fits));
           summed = λ e. w.summed e ∙ ap (λ xs. sum ⊕ capped_sum (λ i. get_or costs i 0) xs) (go e) ∙ sym (capped_assoc sum (get_or costs j 0) (capped_sum (λ i. get_or costs i 0) (follow m (told aim costs places) (m.places - (k + 1)) h))) ∙ ap (λ z. z ⊕ capped_sum (λ i. get_or costs i 0) (follow m (told aim costs places) (m.places - (k + 1)) h)) (sym is);
           low = omega arith;
-          rest = drop-set-lt count list' k j below ∙ w.rest;
         }
 
-    -- the route ended before all were written: then it is not so long
-    pub written_short : k < count → k ≤ length list' → step_from m aim.landing costs places p ≡ None → Written m aim costs places count list list' sum
-    written_short below fits s =
-        let never : count ≡ length (route_in m aim costs places) → ⊥ =
-        λ e. omega (arith, ap length (w.front e), length-append (take k list') (follow m (told aim costs places) (m.places - k) p), length-take-le k list' fits, ap length (follow_end m aim costs places p (m.places - k) s)) in
-        record { front = λ e. absurd (never e); summed = λ e. absurd (never e); rest = w.rest }
+    -- the route ended before the list was full: then it is not so long
+    pub written_short : k < length list → step_from m aim.landing costs places p ≡ None → (list'' : List ℕ) → Written m aim costs places list list'' sum
+    written_short below s list'' =
+        let never : length list ≡ length (route_in m aim costs places) → ⊥ =
+        λ e. omega (arith, w.size, ap length (w.front e), length-append (take k list') (follow m (told aim costs places) (m.places - k) p), length-take-le k list' (omega (arith, w.size)), ap length (follow_end m aim costs places p (m.places - k) s)) in
+        record { listed = λ e. absurd (never e); summed = λ e. absurd (never e) }
 
     nothing : (xs : List ℕ) → length xs ≡ 0 → xs ≡ []
     nothing [] e = refl
     nothing (x ∷ xs) e = absurd (omega arith)
-
-    pub written_all : k ≡ count → k ≤ length list' → Written m aim costs places count list list' sum
-    written_all same fits =
-        let done : count ≡ length (route_in m aim costs places) → follow m (told aim costs places) (m.places - k) p ≡ [] =
-        λ e. nothing (follow m (told aim costs places) (m.places - k) p) (omega (arith, ap length (w.front e), length-append (take k list') (follow m (told aim costs places) (m.places - k) p), length-take-le k list' fits)) in
-        record {
-          front = λ e. ap (λ i. take i list') (sym same) ∙ sym (append-nil (take k list')) ∙ ap (λ xs. take k list' ++ xs) (sym (done e)) ∙ sym (w.front e);
-          summed = λ e. sym (w.summed e ∙ ap (λ xs. sum ⊕ capped_sum (λ i. get_or costs i 0) xs) (done e) ∙ capped_zero sum w.low);
-          rest = w.rest;
-        }
 
 -- the arc with the smallest offer is an arc
 pub best_in : (m : Meaning) (costs : List ℕ) (places : List Place) (p j : ℕ) → cheapest (offered m costs places) (arcs_from m p) ≡ Some j → j < m.arcs

@@ -1,7 +1,7 @@
 -- Tables that agree on the ground's arcs and places. Assumes nothing.
 use Rattle.std.proofs.Common.{◌≡◌, ℕ, ◌-◌, ◌<◌, ◌≤◌, List, ◌++◌, length, get_or, take, drop, sym, refl, ap, ◌∙◌, ap₂, arith, length-append, length-take}
 use borrow.Rule.Slice.PartMut.{post_of}
-use Rattle.std.proofs.lemmas.List.{get_or_append_left, get_or-take, drop_at}
+use Rattle.std.proofs.lemmas.List.{get_or_append_left, get_or-take, drop_at, take-append-le, take_all}
 use Rattle.terms.specs.Amounts.{◌⊕◌}
 use Rattle.ground.specs.Meanings.{Meaning, Lawful}
 use Rattle.method.specs.States.{State}
@@ -29,9 +29,6 @@ rhs_aimed m aim aim' costs places e p = rhs_agrees m (told aim costs places) (to
 pub record SameFront (m : Meaning) (costs : List ℕ) (places : List Place) (costs' : List ℕ) (places' : List Place) : Type 0 where
   pub same_costs : (j : ℕ) → j < m.arcs → get_or costs' j 0 ≡ get_or costs j 0
   pub same_places : (p : ℕ) → p < m.places → place_at places' p ≡ place_at places p
-
-pub same_front_back : (m : Meaning) (costs : List ℕ) (places : List Place) (costs' : List ℕ) (places' : List Place) → SameFront m costs places costs' places' → SameFront m costs' places' costs places
-same_front_back m costs places costs' places' same = record { same_costs = λ j h. sym (same.same_costs j h); same_places = λ p h. sym (same.same_places p h) }
 
 module _ (m : Meaning) (lawful : Lawful m) (aim : Aim) (costs : List ℕ) (places : List Place) (costs' : List ℕ) (places' : List Place) (same : SameFront m costs places costs' places') where
   pub same_rhs : (p : ℕ) → rhs m (told aim costs' places') p ≡ rhs m (told aim costs places) p
@@ -75,6 +72,9 @@ module _ {A : Type 0} (n : ℕ) (xs : List A) where
 
     pub front_rest_at : (k : ℕ) → n ≡ k → drop k (ys ++ post_of 0 (n - 0) xs) ≡ drop k xs
     front_rest_at k e = ap (λ i. drop i (ys ++ post_of 0 (n - 0) xs)) (sym e) ∙ front_rest ∙ ap (λ i. drop i xs) e
+
+    pub front_is : take n (ys ++ post_of 0 (n - 0) xs) ≡ ys
+    front_is = take-append-le n ys (post_of 0 (n - 0) xs) (omega arith) ∙ take_all n ys (omega arith)
 
     pub front_size : n ≤ length xs → n ≤ length (ys ++ post_of 0 (n - 0) xs)
     front_size h = omega (arith, length-append ys (post_of 0 (n - 0) xs))

@@ -9,3 +9,4 @@ pub mod Asking
 pub mod Summing
 pub mod Searching
 pub mod Routing
+pub mod Results

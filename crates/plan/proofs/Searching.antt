@@ -16,7 +16,7 @@ use Rattle.search.specs.Queued.{Synced}
 use Rattle.search.specs.Steps.{SearchMade}
 use Rattle.search.specs.Tables.{Cached, Shows, Sized, nowhere}
 use Rattle.search.specs.declared.place.Place.{Place}
-use Rattle.search.specs.declared.run.Made.{Made}
+use Rattle.search.specs.declared.made.Made.{Made}
 use Rattle.plan.specs.Courses.{course_of, searched_to}
 use Rattle.plan.specs.Phases.{stage_of}
 use Rattle.plan.specs.Declines.{search_declines}

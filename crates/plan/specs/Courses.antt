@@ -5,7 +5,7 @@ use Rattle.terms.specs.declared.refusal.Refusal.TheVariants.{NotSettled}
 use Rattle.plan.specs.declared.phase.Phase.{Phase}
 use Rattle.plan.specs.declared.phase.Phase.TheVariants.{Changed, UnderWay, Settled}
 use Rattle.search.specs.declared.aim.Aim.{Aim}
-use Rattle.search.specs.declared.run.Made.{Made}
+use Rattle.search.specs.declared.made.Made.{Made}
 use Rattle.terms.specs.Amounts.{◌⊕◌}
 use Rattle.plan.specs.declared.header.Header.{Header}
 use Rattle.plan.specs.declared.course.Course.{Course}

@@ -1,5 +1,5 @@
 -- The steps of a route over the tables. Assumes nothing.
-use Rattle.std.specs.Prelude.{◌≡◌, ℕ, Bool, cond, ◌&&◌, List, length, take, drop, Some, None, Option, ◌==◌, nat_lt, slice_index}
+use Rattle.std.specs.Prelude.{◌≡◌, ℕ, Bool, cond, ◌&&◌, List, length, Some, None, Option, ◌==◌, nat_lt, slice_index}
 use Rattle.terms.specs.Amounts.{far}
 use Rattle.ground.specs.Meanings.{Meaning}
 use Rattle.ground.specs.Questions.{arcs_from}
@@ -25,8 +25,7 @@ step_from m landing costs places p = cond (p == landing) None (with_head m (chea
 abbrev pub route_in : Meaning → Aim → List ℕ → List Place → List ℕ
 route_in m aim costs places = follow m (told aim costs places) m.places aim.here
 
--- the route stands at the front of the list, if so many arcs are all of it
-pub record Written (m : Meaning) (aim : Aim) (costs : List ℕ) (places : List Place) (count : ℕ) (list list' : List ℕ) (sum : ℕ) : Type 0 where
-  pub front : count ≡ length (route_in m aim costs places) → take count list' ≡ route_in m aim costs places
-  pub summed : count ≡ length (route_in m aim costs places) → sum ≡ capped_sum (λ j. slice_index costs j) (route_in m aim costs places)
-  pub rest : drop count list' ≡ drop count list
+-- the route stands in the list, if that is just as long
+pub record Written (m : Meaning) (aim : Aim) (costs : List ℕ) (places : List Place) (list list' : List ℕ) (sum : ℕ) : Type 0 where
+  pub listed : length list ≡ length (route_in m aim costs places) → list' ≡ route_in m aim costs places
+  pub summed : length list ≡ length (route_in m aim costs places) → sum ≡ capped_sum (λ j. slice_index costs j) (route_in m aim costs places)

@@ -1,6 +1,6 @@
 // What every call looks at first: whether the plan has begun, on a ground of this size, and whether the tables have room.
-ghost use Rattle.std.specs.Prelude.{◌≡◌};
-ghost use Rattle.method.specs.Handed.{is_short};
+ghost use Rattle.std.specs.Prelude.{◌≡◌, nat_lt};
+ghost use Rattle.std.specs.List.{list_any};
 ghost use Rattle.plan.specs.Declines.{begun_as, begun_on};
 
 use crate::header::Header;
@@ -11,10 +11,7 @@ use terms::refusal::Refusal;
 pub(crate) fn begun(header: Option<Header>) -> Result<Header, Refusal>
     ensures { result ≡ begun_as header }
 {
-    match header {
-        Some(header) => Ok(header),
-        None => Err(Refusal::NotBegun),
-    }
+    header.ok_or(Refusal::NotBegun)
 }
 
 // The header of a plan that has begun on a ground of this size.
@@ -30,12 +27,9 @@ pub(crate) fn begun_on<G: Ground>(header: Option<Header>, site: &G) -> Result<He
 
 // Whether one of these tables has fewer entries than it is to hold.
 pub(crate) fn is_short(tables: &[(usize, u32)]) -> bool
-    ensures { result ≡ is_short tables.now }
+    ensures { result ≡ list_any (λ t. nat_lt t.0 t.1) tables.now }
 {
-    for (entries, needed) in tables {
-        if *entries < *needed as usize {
-            return true;
-        }
-    }
-    false
+    tables
+        .iter()
+        .any(|(entries, needed)| *entries < *needed as usize)
 }

@@ -7,8 +7,8 @@ ghost use Rattle.search.specs.Tables.{place_at, Sized};
 
 use ground::ground::Ground;
 use search::aim::Aim;
-use search::offer::refresh;
 use search::place::Place;
+use search::refresh::refresh;
 use terms::amount::FAR;
 use terms::refusal::Refusal;
 
@@ -17,9 +17,9 @@ pub(crate) fn cost_least<G: Ground>(site: &G, costs: &mut [u32])
     requires { length costs.old ≡ (G.Ground.meaning site.now).arcs }
     ensures { (j : ℕ) → j < length costs.old → slice_index costs.new j ≡ (G.Ground.meaning site.now).least j }
 {
-    for arc in 0..site.arcs() {
-        if let Some(least) = site.least(arc) {
-            costs[arc as usize] = least;
+    for (arc, cost) in costs.iter_mut().enumerate() {
+        if let Some(least) = site.least(arc as u32) {
+            *cost = least;
         }
     }
 }
@@ -41,16 +41,12 @@ pub(crate) fn open_landing(landing: u32, places: &mut [Place])
 pub(crate) fn standing_cost<G: Ground>(site: &G, arc: u32, cost: u32) -> Result<u32, Refusal>
     ensures { result ≡ or_refused (set_refusal (G.Ground.meaning site.now) arc cost) (standing cost) }
 {
-    let Some(least) = site.least(arc) else {
-        return Err(Refusal::NoSuchArc);
-    };
-    if cost == 0 {
-        return Ok(FAR);
+    let least = site.least(arc).ok_or(Refusal::NoSuchArc)?;
+    match cost {
+        0 => Ok(FAR),
+        _ if cost < least || cost > 10_000 => Err(Refusal::CostOutside),
+        _ => Ok(cost),
     }
-    if cost < least || cost > 10_000 {
-        return Err(Refusal::CostOutside);
-    }
-    Ok(cost)
 }
 
 // Writes what an arc costs, and the rhs of its tail anew.

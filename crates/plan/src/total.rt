@@ -13,11 +13,8 @@ pub(crate) fn total(arcs: &[u32], costs: &[u32]) -> Result<u32, Refusal>
 {
     let mut sum = 0;
     for arc in arcs {
-        let arc = *arc as usize;
-        if arc >= costs.len() {
-            return Err(Refusal::NoSuchArc);
-        }
-        sum = capped_sum(sum, costs[arc]);
+        let cost = costs.get(*arc as usize).ok_or(Refusal::NoSuchArc)?;
+        sum = capped_sum(sum, *cost);
     }
     Ok(sum)
 }

@@ -2,12 +2,12 @@
 use ground::ground::Ground;
 use plan::answer::Answer;
 use plan::plan::Plan;
-use planner::call::Call;
 use planner::carry_out::carry_out;
 use queue::entry::Entry;
 use queue::key::Key;
 use search::place::Place;
 use std::process::Abort;
+use terms::call::Call;
 use terms::refusal::Refusal;
 
 // As many places and arcs as the largest ground of the tests has.
@@ -25,7 +25,7 @@ pub(crate) struct Desk {
 }
 
 // A call and what it is to answer.
-pub(crate) type Step<'a> = (Call<'a>, Result<Answer, Refusal>);
+pub(crate) type Step<'a> = (Call<&'a [u32]>, Result<Answer, Refusal>);
 
 impl Desk {
     pub(crate) fn new() -> Desk {
@@ -38,7 +38,7 @@ impl Desk {
         }
     }
 
-    fn ask<G: Ground>(&mut self, ground: &G, call: Call) -> Result<Answer, Refusal> {
+    fn ask<G: Ground>(&mut self, ground: &G, call: Call<&[u32]>) -> Result<Answer, Refusal> {
         carry_out(
             &mut self.plan,
             ground,

@@ -2,8 +2,8 @@
 use crate::desk::Desk;
 use ground::ground::Ground;
 use plan::answer::Answer;
-use planner::call::Call;
 use std::process::Abort;
+use terms::call::Call;
 use terms::refusal::Refusal;
 
 // The turns of a search, the arcs of the route that it leaves, and their sum.

@@ -13,8 +13,9 @@ use Rattle.plan.specs.declared.answer.Answer.{Answer}
 use Rattle.plan.specs.declared.answer.Answer.TheVariants.{Done}
 use Rattle.planner.specs.Carried.{beginning, Begins, Declined, event_of, ListLeft}
 use Rattle.planner.specs.Leads.{KeepsPromise, Led, TurnsAway}
-use Rattle.planner.specs.declared.call.Call.{Call}
-use Rattle.planner.specs.declared.call.Call.TheVariants.{Begin}
+use Rattle.terms.specs.declared.call.Call.{Call}
+use denote.Ref.{Bor}
+use Rattle.terms.specs.declared.call.Call.TheVariants.{Begin}
 
 module _ (m : Meaning) (law : Lawful m) where
   pub keeps : (call : Asked) (said : Said) (before after : Stand) → CarriesOut m call said before after → KeepsPromise m (Some (called call said)) before after
@@ -54,7 +55,7 @@ unless_same (Ok answer) stand = tt
 unless_same (Err refusal) stand = refl
 
 -- all that is promised of a call
-pub record Carried (m : Meaning) (call : Call) (before : Stand) (list : List ℕ) (r : Result Answer Refusal) (after : Stand) (list' : List ℕ) : Type 0 where
+pub record Carried (m : Meaning) (call : Call (Bor (List ℕ))) (before : Stand) (list : List ℕ) (r : Result Answer Refusal) (after : Stand) (list' : List ℕ) : Type 0 where
   pub declined : Declined m call before list r
   pub kept : Unless r before after
   pub listed : ListLeft call r list list'
@@ -62,5 +63,5 @@ pub record Carried (m : Meaning) (call : Call) (before : Stand) (list : List ℕ
   pub began : Begins m call r after
   pub law : KeepsPromise m (event_of call r list') before after
 
-pub carried_as : {m : Meaning} {call same : Call} {before after : Stand} {list list' : List ℕ} {r : Result Answer Refusal} → call ≡ same → Carried m same before list r after list' → Carried m call before list r after list'
-carried_as {m} {call} {same} {before} {after} {list} {list'} {r} is made = subst (λ (x : Call). Carried m x before list r after list') (sym is) made
+pub carried_as : {m : Meaning} {call same : Call (Bor (List ℕ))} {before after : Stand} {list list' : List ℕ} {r : Result Answer Refusal} → call ≡ same → Carried m same before list r after list' → Carried m call before list r after list'
+carried_as {m} {call} {same} {before} {after} {list} {list'} {r} is made = subst (λ (x : Call (Bor (List ℕ))). Carried m x before list r after list') (sym is) made

@@ -4,20 +4,20 @@ ghost use Rattle.plan.specs.Stands.{Beyond, stand_of, Unless};
 ghost use Rattle.planner.specs.Carried.{Begins, Declined, event_of, ListLeft};
 ghost use Rattle.planner.specs.Leads.{KeepsPromise, TurnsAway};
 
-use crate::call::Call;
 use ground::ground::Ground;
 use plan::answer::Answer;
 use plan::plan::Plan;
 use queue::entry::Entry;
 use queue::key::Key;
 use search::place::Place;
+use terms::call::Call;
 use terms::refusal::Refusal;
 
 // Carries out one call. A route is written from the front of the list, and no other call writes there.
 pub fn carry_out<G: Ground>(
     plan: &mut Plan,
     site: &G,
-    call: Call,
+    call: Call<&[u32]>,
     costs: &mut [u32],
     places: &mut [Place],
     queue: &mut [Entry<Key>],

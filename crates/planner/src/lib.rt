@@ -1,5 +1,4 @@
 // The planner: one call on a plan carried out, and the route promise kept by it.
 #![tactic(auto)]
 
-pub mod call;
 pub mod carry_out;

@@ -1,9 +1,9 @@
 -- What a ground answers of an arc that it has, and tables that fit it. Assumes nothing.
-use Rattle.std.proofs.Common.{◌≡◌, ℕ, ◌<◌, Bool, true, false, ◌&&◌, eqb, ltb, List, length, Some, sym, refl, ◌∙◌, arith}
+use Rattle.std.proofs.Common.{◌≡◌, ℕ, ◌<◌, Bool, true, false, ◌&&◌, ltb, List, Some, sym, refl, ◌∙◌, arith}
 use Rattle.ground.specs.KnownLaws.{known_some}
 use Rattle.ground.specs.Meanings.{Meaning, Lawful}
 use Rattle.ground.specs.Questions.{head_of, tail_of}
-use Rattle.std.proofs.lemmas.Bool.{eq-eqb, eqb-true, false≢true}
+use Rattle.std.proofs.lemmas.Bool.{eq-eqb, false≢true}
 use Rattle.search.specs.Tables.{Sized, fits}
 use Rattle.search.specs.declared.place.Place.{Place}
 
@@ -20,9 +20,6 @@ both true false e = absurd (false≢true e)
 both false b e = absurd (false≢true e)
 
 module _ (m : Meaning) (costs : List ℕ) (places : List Place) where
-  pub fits_sized : fits m costs places ≡ true → Sized m costs places
-  fits_sized e = let w = both (eqb (length costs) m.arcs) (eqb (length places) m.places) e in record { costs_fit = eqb-true _ _ w.0; places_fit = eqb-true _ _ w.1 }
-
   sized_fits : Sized m costs places → fits m costs places ≡ true
   sized_fits s = rw (eq-eqb _ _ s.costs_fit, eq-eqb _ _ s.places_fit)
 

@@ -1,11 +1,11 @@
-pub mod QueueSide
-pub mod Reopening
 pub mod Ranks
 pub mod Shown
 pub mod Dues
 pub mod Runs
 pub mod Starts
 pub mod Walking
+pub mod Picking
+pub mod OneTask
 pub mod Asking
 pub mod Agreeing
 pub mod Writing

@@ -1,5 +1,5 @@
 -- The arcs into a place whose value fell, one after another. Assumes nothing.
-use Rattle.std.proofs.Common.{◌≡◌, ℕ, ◌+◌, ◌<◌, ◌≤◌, min, Bool, ◌⊎◌, List, length, get_or, set, Some, None, sym, refl, ap, ◌∙◌, inl, inr, arith}
+use Rattle.std.proofs.Common.{◌≡◌, ℕ, ◌+◌, ◌<◌, ◌≤◌, Bool, ◌⊎◌, List, get_or, Some, None, sym, refl, ap, ◌∙◌, inl, inr, arith}
 use Rattle.ground.proofs.ArcsAt.{arcs_at-at, arcs_at-has}
 use Rattle.ground.specs.KnownLaws.{one_answer}
 use Rattle.ground.specs.Meanings.{Meaning}
@@ -12,25 +12,11 @@ use Rattle.method.specs.States.{State}
 use Rattle.method.specs.Values.{offer, rhs}
 use Rattle.search.specs.declared.aim.Aim.{Aim}
 use Rattle.search.specs.declared.place.Place.{Place}
-use Rattle.search.specs.Tables.{Cached, place_at, told, with_rhs}
+use Rattle.search.specs.Tables.{Cached, place_at, told}
 use Rattle.search.specs.Turning.{Lowered, SameValues, Turned}
 use Rattle.search.proofs.Agreeing.{rhs_below}
 use Rattle.search.proofs.Walking.{nth_past_all}
-use Rattle.search.proofs.Writing.{Begun, elsewhere, same_then, stays, there_too, unchanged}
-
--- the tail of an arc was given the way over it
-pub lowered_by : (m : Meaning) (aim : Aim) (costs : List ℕ) (j value : ℕ) (places places' : List Place) (x : ℕ) → x ≡ m.tail j → x < length places → (x ≡ aim.landing → ⊥) → get_or costs j 0 ⊕ value < (place_at places x).rhs → places' ≡ set places x (with_rhs (place_at places x) (get_or costs j 0 ⊕ value)) → Lowered m aim costs j value places places'
-lowered_by m aim costs j value places places' x tail within away less written =
-    let new : Place = with_rhs (place_at places x) (get_or costs j 0 ⊕ value) in
-    record {
-      same = record { values = stays places places' x new within written (λ y. y.g) refl; closed = stays places places' x new within written (λ y. y.closed) refl };
-      others = λ q d. ap (λ y. y.rhs) (elsewhere places places' x new within written q (λ i. d (i ∙ tail)));
-      landing = λ i. absurd (away (tail ∙ i));
-      away = λ d. ap (λ y. y.rhs) (there_too places places' x new within written (m.tail j) (sym tail)) ∙ shorter (ap (λ y. (place_at places y).rhs) tail);
-    }
-  where
-    shorter : (place_at places x).rhs ≡ (place_at places (m.tail j)).rhs → get_or costs j 0 ⊕ value ≡ min (place_at places (m.tail j)).rhs (get_or costs j 0 ⊕ value)
-    shorter e = omega arith
+use Rattle.search.proofs.Writing.{Begun, same_then, unchanged}
 
 module _ (m : Meaning) (aim : Aim) (costs : List ℕ) (p value : ℕ) where
   -- an arc from a place into p whose way costs this

@@ -8,7 +8,7 @@ use Rattle.queue.specs.declared.entry.Entry.{Entry}
 use Rattle.queue.specs.declared.key.Key.{Key}
 use Rattle.search.specs.declared.aim.Aim.{Aim}
 use Rattle.search.specs.declared.place.Place.{Place}
-use Rattle.search.specs.declared.run.Made.{Made}
+use Rattle.search.specs.declared.made.Made.{Made}
 use Rattle.search.specs.Steps.{Due, InStep, TurnMade, RunMade}
 use Rattle.search.specs.Tables.{Shows}
 
@@ -50,13 +50,6 @@ module _ (m : Meaning) (aim : Aim) (costs : List ℕ) (turns : ℕ) (places : Li
     pub in_step : InStep m aim costs places es → InStep m aim costs places' es'
     pub reaches : InStep m aim costs places es → (s : State) → Shows m s aim costs places → Reached made places' s
 
-  pub set_out : UnderWay 0 places es
-  set_out = record {
-    few = omega arith;
-    in_step = λ st. st;
-    reaches = λ st s sh. record { state = s; shows = sh; counted = omega arith; goes_on = λ left e. ap (λ (z : ℕ). run m z s) (omega arith) };
-  }
-
   module _ (made : ℕ) (places' : List Place) (es' es₁ : List (Entry Key)) (same : es₁ ≡ es') (u : UnderWay made places' es') where
     -- the queue was asked, and is as it was
     in_step₁ : InStep m aim costs places es → InStep m aim costs places' es₁
@@ -87,12 +80,12 @@ module _ (m : Meaning) (aim : Aim) (costs : List ℕ) (turns : ℕ) (places : Li
     }
 
     -- the end test holds before all turns are made
-    pub stops_early : (InStep m aim costs places' es' → (s : State) → Shows m s aim costs places' → Due m s None) → RunMade m aim costs turns places es places' es₁ (record { settled = true; turns = made })
-    stops_early due = stops (record { settled = true; turns = made }) refl (λ st s sh r.
+    pub stops_early : (n : ℕ) → n ≡ made → (InStep m aim costs places' es' → (s : State) → Shows m s aim costs places' → Due m s None) → RunMade m aim costs turns places es places' es₁ (record { settled = true; turns = n })
+    stops_early n is due = stops (record { settled = true; turns = n }) is (λ st s sh r.
         let e = due (u.in_step st) r.state r.shows in
         (r.goes_on (turns - made) (omega (arith, u.few)) ∙ run_ended m (turns - made) r.state e, sym e))
 
     -- all turns are made
-    pub stops_late : (settled : Bool) → turns ≤ made → (InStep m aim costs places' es' → (s : State) → Shows m s aim costs places' → settled ≡ ended m s) → RunMade m aim costs turns places es places' es₁ (record { settled = settled; turns = made })
-    stops_late settled all due = stops (record { settled = settled; turns = made }) refl (λ st s sh r.
+    pub stops_late : (n : ℕ) → n ≡ made → (settled : Bool) → turns ≤ made → (InStep m aim costs places' es' → (s : State) → Shows m s aim costs places' → settled ≡ ended m s) → RunMade m aim costs turns places es places' es₁ (record { settled = settled; turns = n })
+    stops_late n is settled all due = stops (record { settled = settled; turns = n }) is (λ st s sh r.
         (r.goes_on 0 (omega (arith, u.few)) ∙ run_none m r.state, due (u.in_step st) r.state r.shows))

@@ -7,9 +7,10 @@ use Rattle.method.specs.States.{State}
 use Rattle.queue.specs.declared.entry.Entry.{Entry}
 use Rattle.queue.specs.declared.key.Key.{Key}
 use Rattle.search.specs.declared.aim.Aim.{Aim}
+use Rattle.search.specs.declared.made.Made.{Made}
 use Rattle.search.specs.declared.place.Place.{Place}
 use Rattle.search.specs.Queued.{Synced}
-use Rattle.search.specs.Steps.{InStep, StartedAfresh}
+use Rattle.search.specs.Steps.{InStep, SearchMade, StartedAfresh}
 use Rattle.search.specs.Tables.{place_at, told, Shows, Cached}
 use Rattle.search.proofs.Agreeing.{rhs_same}
 
@@ -51,3 +52,7 @@ module _ (m : Meaning) (law : Lawful m) (aim : Aim) (costs : List ℕ) (places p
     in_step = record { cached = cached; synced = synced };
     shows = subst (λ (z : State). Shows m z aim costs places) (sym (cond-false afresh (emptied m s) s e)) sh;
   })
+
+-- the same of tables that hold the same
+pub made_of : (m : Meaning) (aim : Aim) (afresh : Bool) (costs : List ℕ) (turns : ℕ) (places ps qs : List Place) (es fs : List (Entry Key)) (r : Made) (s : State) → ps ≡ qs → es ≡ fs → SearchMade m aim afresh costs turns places qs fs r s → SearchMade m aim afresh costs turns places ps es r s
+made_of m aim afresh costs turns places ps qs es fs r s e d h = subst (λ (z : List Place). SearchMade m aim afresh costs turns places z es r s) (sym e) (subst (λ (z : List (Entry Key)). SearchMade m aim afresh costs turns places qs z r s) (sym d) h)

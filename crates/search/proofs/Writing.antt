@@ -1,14 +1,9 @@
 -- One record written into the places. Assumes nothing.
-use Rattle.std.proofs.Common.{◌≡◌, ℕ, ◌<◌, Bool, List, length, set, sym, refl, ap, ◌∙◌, subst, inl, inr, get_or-set_other, get_or-set_same}
-use Rattle.ground.specs.Meanings.{Meaning}
-use Rattle.queue.specs.declared.entry.Entry.{Entry}
-use Rattle.queue.specs.declared.key.Key.{Key}
+use Rattle.std.proofs.Common.{◌≡◌, ℕ, ◌<◌, Bool, List, length, set, sym, refl, ap, ◌∙◌, inl, inr, get_or-set_other, get_or-set_same}
 use Rattle.std.proofs.lemmas.Bool.{cases_eq}
-use Rattle.search.specs.declared.aim.Aim.{Aim}
 use Rattle.search.specs.declared.place.Place.{Place}
-use Rattle.search.specs.Queued.{Synced}
 use Rattle.search.specs.Tables.{place_at, nowhere}
-use Rattle.search.specs.Turning.{SameValues, StaysSynced}
+use Rattle.search.specs.Turning.{SameValues}
 
 module _ (places places' : List Place) (p : ℕ) (place : Place) (within : p < length places) (written : places' ≡ set places p place) where
   pub there : place_at places' p ≡ place
@@ -46,7 +41,3 @@ begun places places' p place within written e = record {
   closeds = λ q d. ap (λ x. x.closed) (elsewhere places places' p place within written q d);
   stored = stays places places' p place within written (λ x. x.rhs) e;
 }
-
--- a queue in step with all places of the ground
-pub all_synced : (m : Meaning) (aim : Aim) (n : ℕ) (places : List Place) (es : List (Entry Key)) (places' : List Place) (es' : List (Entry Key)) → n ≡ m.places → (Synced m aim n places es → Synced m aim n places' es') → StaysSynced m aim places es places' es'
-all_synced m aim n places es places' es' e stays = subst (λ (k : ℕ). Synced m aim k places es → Synced m aim k places' es') e stays

@@ -8,7 +8,7 @@ use Rattle.queue.specs.declared.entry.Entry.{Entry}
 use Rattle.queue.specs.declared.key.Key.{Key}
 use Rattle.search.specs.declared.aim.Aim.{Aim}
 use Rattle.search.specs.declared.place.Place.{Place}
-use Rattle.search.specs.declared.run.Made.{Made}
+use Rattle.search.specs.declared.made.Made.{Made}
 use Rattle.search.specs.Tables.{place_at, Shows, Cached}
 use Rattle.search.specs.Queued.{Synced, reopened}
 

@@ -1,6 +1,6 @@
 -- The tables that a plan is kept in, and the state that they show. Assumes nothing.
-use Rattle.std.specs.Prelude.{◌≡◌, ℕ, ◌<◌, Bool, false, ◌&&◌, List, length, get_or, ◌==◌, slice_index, slice_index_or}
-use Rattle.terms.specs.Amounts.{◌⊕◌}
+use Rattle.std.specs.Prelude.{◌≡◌, ℕ, ◌<◌, Bool, false, cond, ◌&&◌, List, length, get_or, ◌==◌, nat_lt, slice_index, slice_index_or}
+use Rattle.terms.specs.Amounts.{far, ◌⊕◌}
 use Rattle.ground.specs.Meanings.{Meaning}
 use Rattle.method.specs.States.{State, changed}
 use Rattle.method.specs.Values.{rhs}
@@ -34,6 +34,10 @@ pub record Within (m : Meaning) (aim : Aim) : Type 0 where
 -- the way over an arc: its cost and the value of its head
 abbrev pub offered : Meaning → List ℕ → List Place → ℕ → ℕ
 offered m costs places j = get_or costs j 0 ⊕ (place_at places (m.head j)).g
+
+-- the same, and Far over no arc of the ground
+abbrev pub offer_of : Meaning → List ℕ → List Place → ℕ → ℕ
+offer_of m costs places j = cond (nat_lt j m.arcs) (offered m costs places j) far
 
 -- the state that the tables tell, as far as values go; the count and the phase stand elsewhere
 abbrev pub told : Aim → List ℕ → List Place → State

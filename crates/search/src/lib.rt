@@ -1,12 +1,12 @@
 // The search over lent tables: what the tables hold, one turn, and turns until the end.
 #![tactic(auto)]
 
-mod afresh;
 pub mod aim;
-mod due;
-pub mod offer;
+pub mod made;
+pub mod offers;
 pub mod place;
-mod queued;
-pub mod run;
+pub mod refresh;
 pub mod search;
-mod turn;
+mod tables;
+pub mod task;
+mod waiting;

@@ -5,10 +5,11 @@ ghost use Rattle.search.specs.Queued.{Synced};
 ghost use Rattle.search.specs.Steps.{LeftAlone, SearchMade};
 ghost use Rattle.search.specs.Tables.{Cached, Shows, Sized, Within};
 
-use crate::afresh::start_afresh;
 use crate::aim::Aim;
+use crate::made::Made;
 use crate::place::Place;
-use crate::run::{Made, run};
+use crate::tables::Tables;
+use crate::task::Task;
 use ground::ground::Ground;
 use queue::entry::Entry;
 use queue::key::Key;
@@ -39,8 +40,11 @@ pub fn search<G: Ground>(
             turns: 0,
         };
     }
-    if afresh {
-        start_afresh(site, aim, places, entries);
-    }
-    run(site, aim, costs, turns, places, entries)
+    let task = Task { site, aim, costs };
+    let mut tables = Tables {
+        task: &task,
+        places,
+        entries,
+    };
+    tables.search(afresh, turns)
 }

@@ -3,6 +3,8 @@ ghost use Rattle.std.specs.Prelude.{◌≡◌};
 ghost use Rattle.terms.specs.declared.fault.LineFault.TheVariants.{Field};
 ghost use Rattle.terms.specs.Faults.{placed_at};
 
+use std::error::Error;
+
 // Why a field is no number.
 #[derive(Clone, Copy, Debug, PartialEq, Eq)]
 pub enum NumberFault {
@@ -26,8 +28,14 @@ pub struct SheetFault {
     pub fault: LineFault,
 }
 
+impl Error for NumberFault {}
+
+impl Error for LineFault {}
+
+impl Error for SheetFault {}
+
 // A fault with the number of the field or the line where it was met, on its way up one layer.
-#[derive(Clone, Copy, Debug)]
+#[derive(Clone, Copy, Debug, PartialEq, Eq)]
 pub struct At<F> {
     pub number: usize,
     pub fault: F,
@@ -37,10 +45,7 @@ pub struct At<F> {
 pub fn placed<T, F>(number: usize, res: Result<T, F>) -> Result<T, At<F>>
     ensures { result ≡ placed_at number res }
 {
-    match res {
-        Ok(value) => Ok(value),
-        Err(fault) => Err(At { number, fault }),
-    }
+    res.map_err(|fault| At { number, fault })
 }
 
 impl From<At<NumberFault>> for LineFault {

@@ -1,8 +1,9 @@
-// The terms that every other crate speaks in: amounts, the slack, arcs, faults and refusals.
+// The terms that every other crate speaks in: amounts, the slack, arcs, calls, faults and refusals.
 #![tactic(auto)]
 
 pub mod amount;
 pub mod arc;
+pub mod call;
 pub mod fault;
 pub mod refusal;
 pub mod slack;

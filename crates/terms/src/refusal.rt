@@ -4,6 +4,7 @@ ghost use Rattle.terms.specs.declared.refusal.Refusal.TheVariants.{Sheet};
 ghost use Rattle.terms.specs.Refusals.{number_of};
 
 use crate::fault::SheetFault;
+use std::error::Error;
 
 #[derive(Clone, Copy, Debug, PartialEq, Eq)]
 pub enum Refusal {
@@ -56,6 +57,8 @@ impl Refusal {
         }
     }
 }
+
+impl Error for Refusal {}
 
 impl From<SheetFault> for Refusal {
     ghost from_gives = { λ f r. r ≡ Sheet f };

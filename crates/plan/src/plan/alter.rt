@@ -1,5 +1,5 @@
 // Set, Move and Stretch: the calls that alter a plan.
-ghost use Rattle.std.specs.Prelude.{◌≡◌, ℕ, List, [], length};
+ghost use Rattle.std.specs.Prelude.{◌≡◌, ℕ, List, [], length, Ok};
 ghost use Rattle.ground.specs.Meanings.{Meaning};
 ghost use Rattle.method.specs.Calls.{set_cost, move_to, stretch_to};
 ghost use Rattle.plan.specs.Answers.{heard, refusal_in};
@@ -23,17 +23,15 @@ use terms::refusal::Refusal;
 use terms::slack::Slack;
 
 // The header of a plan that a call alters.
-fn altered(header: Header, aim: Aim) -> Header
-    ensures { result ≡ changed_to header aim }
+fn altered(header: Header, aim: Aim) -> Result<Header, Refusal>
+    ensures { result ≡ Ok (changed_to header aim) }
 {
-    match course_for(header.phase, Kind::Alter) {
-        Ok(course) => Header {
-            aim,
-            phase: course.next,
-            ..header
-        },
-        Err(_) => header,
-    }
+    let course = course_for(header.phase, Kind::Alter)?;
+    Ok(Header {
+        aim,
+        phase: course.next,
+        ..header
+    })
 }
 
 impl Plan {
@@ -56,6 +54,7 @@ impl Plan {
             return Err(Refusal::TableShort);
         }
         let cost = standing_cost(site, arc, cost)?;
+        let after = altered(header, header.aim)?;
         let m = header.arcs as usize;
         let n = header.places as usize;
         write_cost(
@@ -66,7 +65,7 @@ impl Plan {
             &mut costs[0..m],
             &mut places[0..n],
         );
-        self.header = Some(altered(header, header.aim));
+        self.header = Some(after);
         Ok(Answer::Done)
     }
 
@@ -84,7 +83,7 @@ impl Plan {
             here: place,
             ..header.aim
         };
-        self.header = Some(altered(header, aim));
+        self.header = Some(altered(header, aim)?);
         Ok(Answer::Done)
     }
 
@@ -100,7 +99,7 @@ impl Plan {
             slack,
             ..header.aim
         };
-        self.header = Some(altered(header, aim));
+        self.header = Some(altered(header, aim)?);
         Ok(Answer::Done)
     }
 }

@@ -17,7 +17,9 @@ use crate::plan::Plan;
 use crate::route::{count_arcs, is_far, write_arcs};
 use crate::total::total;
 use ground::ground::Ground;
+use search::offers::Offers;
 use search::place::Place;
+use search::task::Task;
 use terms::refusal::Refusal;
 
 impl Plan {
@@ -38,17 +40,25 @@ impl Plan {
             return Err(Refusal::TableShort);
         }
         let _ = course_for(header.phase, Kind::Route)?;
-        let costs = &costs[0..header.arcs as usize];
         let places = &places[0..header.places as usize];
         if is_far(places, header.aim.here) {
             return Err(Refusal::NoWay);
         }
-        let count = count_arcs(site, header.aim, costs, places);
-        if count > list.len() {
+        let task = Task {
+            site,
+            aim: header.aim,
+            costs: &costs[0..header.arcs as usize],
+        };
+        let offers = Offers {
+            task: &task,
+            places,
+        };
+        let arcs = count_arcs(&offers);
+        if arcs > list.len() {
             return Err(Refusal::ListShort);
         }
-        let sum = write_arcs(site, header.aim, costs, places, count, list);
-        Ok(Answer::Route { arcs: count, sum })
+        let sum = write_arcs(&offers, &mut list[0..arcs]);
+        Ok(Answer::Route { arcs, sum })
     }
 
     // Adds the present costs of the arcs in a list.

@@ -15,8 +15,8 @@ use crate::plan::Plan;
 use ground::ground::Ground;
 use queue::entry::Entry;
 use queue::key::Key;
+use search::made::Made;
 use search::place::Place;
-use search::run::Made;
 use search::search::search;
 use terms::refusal::Refusal;
 
@@ -73,16 +73,11 @@ impl Plan {
         );
         let header = searched(header, course, made);
         self.header = Some(header);
+        let (turns, count) = (made.turns, header.count);
         if made.settled {
-            Ok(Answer::Settled {
-                turns: made.turns,
-                count: header.count,
-            })
+            Ok(Answer::Settled { turns, count })
         } else {
-            Ok(Answer::Cut {
-                turns: made.turns,
-                count: header.count,
-            })
+            Ok(Answer::Cut { turns, count })
         }
     }
 }

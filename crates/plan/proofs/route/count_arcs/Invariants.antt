@@ -5,8 +5,5 @@ use Rattle.plan.proofs.route.count_arcs.Given as goal
 
 abbrev pub invariant-loop-count : goal.invariant-loop-count
 invariant-loop-count g l =
-    length (follow (g.G.Ground.meaning l.site) (told l.aim l.costs l.places) (length l.places) l.aim.here)
-    ≡ l.count + length (follow (g.G.Ground.meaning l.site) (told l.aim l.costs l.places) (length l.places - l.count) l.p)
-
-abbrev pub decreases-loop-count : goal.decreases-loop-count
-decreases-loop-count g l = length l.places - l.count
+    length (follow (g.G.Ground.meaning l.offers.task.now.site.now) (told l.offers.task.now.aim l.offers.task.now.costs.now l.offers.places.now) (length l.offers.places.now) l.offers.task.now.aim.here)
+    ≡ l.count + length (follow (g.G.Ground.meaning l.offers.task.now.site.now) (told l.offers.task.now.aim l.offers.task.now.costs.now l.offers.places.now) (length l.offers.places.now - l.count) l.p)

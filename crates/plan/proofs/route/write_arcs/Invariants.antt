@@ -1,5 +1,5 @@
 use Rattle.plan.proofs.Following.{WrittenTo}
 use Rattle.plan.proofs.route.write_arcs.Given as goal
 
-abbrev pub invariant-loop-k : goal.invariant-loop-k
-invariant-loop-k g l = WrittenTo (g.G.Ground.meaning l.site) l.aim l.costs l.places l.count l.initial.list l.list l.k l.p l.sum
+abbrev pub invariant-loop-slot : goal.invariant-loop-slot
+invariant-loop-slot g l = WrittenTo (g.G.Ground.meaning l.offers.task.now.site.now) l.offers.task.now.aim l.offers.task.now.costs.now l.offers.places.now l.fn.list l.list l.slot-index l.p l.sum

@@ -4,7 +4,7 @@ use Rattle.method.specs.Calls.{set_cost, move_to, stretch_to, search_for, route_
 use Rattle.plan.specs.Answers.{heard}
 use Rattle.plan.specs.Stands.{CarriesOut, Stand, stand_of}
 use Rattle.planner.proofs.Carrying.{begins, Carried, carried_as, keeps, keeps_declined, over, turns_away, unless_same}
-use Rattle.planner.specs.declared.call.Call.TheVariants.{Begin, Set, Move, Stretch, Search, Route, Sum}
+use Rattle.terms.specs.declared.call.Call.TheVariants.{Begin, Set, Move, Stretch, Search, Route, Sum}
 use Rattle.planner.proofs.carry_out.carry_out.Goals as goal
 
 pub returns-in-Begin : goal.returns-in-Begin

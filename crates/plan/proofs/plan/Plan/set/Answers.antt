@@ -6,6 +6,7 @@ use Rattle.plan.specs.Declines.{or_else}
 use Rattle.plan.proofs.Admitting.{begun_on_is, not_turned_away, first_room, later_room, was_refused, was_accepted, nothing_beyond, refusal_is, kept_since, carried_since, standing_at}
 use Rattle.plan.proofs.Costing.{set_declined, set_done, arc_there}
 use Rattle.plan.proofs.Fronting.{part_size, front_rest_at}
+use Rattle.plan.proofs.Results.{ok_is}
 use Rattle.plan.proofs.plan.Plan.set.Goals as goal
 
 pub returns-in_err-cost : goal.returns-in_err-cost
@@ -60,5 +61,5 @@ returns g c =
         places_beyond = front_rest_at h.places places zs sz m.places b.places_same;
         queue_beyond = refl;
       };
-      state = set_done m lawful o h b costs places costs_room places_room arc given c.in_ok-cost.cost (arc_there m arc given took.0) took.0 took.1 ys zs sy sz c.write_cost.ensures c.altered.result c.altered.ensures;
+      state = set_done m lawful o h b costs places costs_room places_room arc given c.in_ok-cost.cost (arc_there m arc given took.0) took.0 took.1 ys zs sy sz c.write_cost.ensures c.in_ok-after.after (ok_is _ _ c.in_ok-after.ensures);
     }

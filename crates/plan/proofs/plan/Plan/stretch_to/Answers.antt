@@ -4,6 +4,7 @@ use Rattle.terms.specs.declared.refusal.Refusal.TheVariants.{StretchOutside}
 use Rattle.method.specs.Calls.{stretch_to}
 use Rattle.plan.proofs.Admitting.{begun_is, refusal_is, kept_since, carried_since, standing_at}
 use Rattle.plan.proofs.Altering.{stretch_declines_lem, stretch_outside, stretch_within, stretch_declined, stretch_done}
+use Rattle.plan.proofs.Results.{ok_is}
 use Rattle.plan.proofs.plan.Plan.stretch_to.Goals as goal
 
 pub returns-in_err-slack : goal.returns-in_err-slack
@@ -30,5 +31,5 @@ returns c =
     record {
       declined = λ m. sym (stretch_declines_lem o h is m c.args.slack ∙ stretch_within m c.args.slack d.0);
       kept = tt;
-      state = λ m costs places queue. stretch_done o h is m costs places queue c.args.slack d.0 c.in_ok-slack.slack d.1 c.altered.result c.altered.ensures;
+      state = λ m costs places queue. stretch_done o h is m costs places queue c.args.slack d.0 c.in_ok-slack.slack d.1 c.in_ok-altered.field-0 (ok_is _ _ c.in_ok-altered.ensures);
     }
