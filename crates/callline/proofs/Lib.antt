@@ -1,5 +1,2 @@
-pub mod Counting
-pub mod Writing
-pub mod Sums
-pub mod Lines
+pub mod Reading
 pub mod Law

@@ -1,27 +1,17 @@
 -- What a line of the cab program says: a call with its numbers, or nothing. Assumes nothing.
-use Rattle.std.specs.Prelude.{◌≡◌, ℕ, ◌≤◌, min, cond, ◌||◌, List, [], ◌∷◌, length, take, drop, Some, None, Ok, Err, Option, Result, ◌==◌, nat_lt}
+use Rattle.std.specs.Prelude.{ℕ, ◌≤◌, min, cond, ◌||◌, List, [], ◌∷◌, ◌++◌, length, drop, Some, None, Ok, Err, Option, Result, ◌==◌, nat_lt}
+use Rattle.std.specs.Option.{option_map, option_and_then, ok_or}
+use Rattle.terms.specs.declared.call.Call.{Call}
+use Rattle.terms.specs.declared.call.Call.TheVariants.{Begin, Set, Move, Stretch, Search, Route, Sum}
 use Rattle.terms.specs.declared.fault.NumberFault.{NumberFault}
 use Rattle.terms.specs.declared.refusal.Refusal.{Refusal}
 use Rattle.terms.specs.declared.refusal.Refusal.TheVariants.{NoCall}
 use Rattle.text.specs.Numbers.{number_of}
 use Rattle.text.specs.Pieces.{fields_of}
-use Rattle.callline.specs.declared.typed.TypedCall.{TypedCall}
-use Rattle.callline.specs.declared.typed.TypedCall.TheVariants.{Begin, Set, Move, Stretch, Search, Route, Sum}
 
--- a call as a line says it
-pub data Typed : Type 0 where
-  begin_at : ℕ → ℕ → ℕ → Typed
-  set_cost : ℕ → ℕ → Typed
-  move_to : ℕ → Typed
-  stretch_to : ℕ → Typed
-  search_for : ℕ → Typed
-  route : Typed
-  sum_over : List ℕ → Typed
-
--- go on with what is there
-abbrev pub then : {X Y : Type 0} → Option X → (X → Option Y) → Option Y
-then None f = None
-then (Some x) f = f x
+-- a call as a line says it, with its arcs themselves
+abbrev pub Typed : Type 0
+Typed = Call (List ℕ)
 
 -- a number before others, unless one is missing
 abbrev pub and_these : Result ℕ NumberFault → Option (List ℕ) → Option (List ℕ)
@@ -34,40 +24,30 @@ abbrev pub numbers_in : List (List ℕ) → Option (List ℕ)
 numbers_in [] = Some []
 numbers_in (field ∷ fields) = and_these (number_of field) (numbers_in fields)
 
--- what is made of exactly one, two or three numbers, and of no further one
-abbrev pub none : {X : Type 0} → X → List ℕ → Option X
-none x [] = Some x
-none x (n ∷ ns) = None
-
-abbrev pub one : {X : Type 0} → (ℕ → X) → List ℕ → Option X
-one f [] = None
-one f (n ∷ ns) = none (f n) ns
-
-abbrev pub two : {X : Type 0} → (ℕ → ℕ → X) → List ℕ → Option X
-two f [] = None
-two f (n ∷ ns) = one (f n) ns
-
-abbrev pub three : {X : Type 0} → (ℕ → ℕ → ℕ → X) → List ℕ → Option X
-three f [] = None
-three f (n ∷ ns) = two (f n) ns
+-- the numbers, if there are just n
+abbrev pub exactly : ℕ → List ℕ → Option (List ℕ)
+exactly n numbers = cond (length numbers == n) (Some numbers) None
 
 -- more than 65,535 turns are no form
 abbrev pub search_of : ℕ → Option Typed
-search_of turns = cond (nat_lt 65535 turns) None (Some (search_for turns))
+search_of turns = cond (nat_lt 65535 turns) None (Some (Search turns))
 
--- the call of a letter that comes with a fixed count of numbers: b, c, h, s, r
+-- the call of a letter that comes with one number: h, s, r
+abbrev pub form_of_one : ℕ → ℕ → Option Typed
+form_of_one letter n =
+    cond (letter == 104) (Some (Move n)) (cond (letter == 115) (Some (Stretch n)) (cond (letter == 114) (search_of n) None))
+
+-- the call of a letter that comes with a fixed count of numbers: b with three, c with two
 abbrev pub form_of : ℕ → List ℕ → Option Typed
-form_of letter numbers =
-    cond (letter == 98) (three begin_at numbers)
-    (cond (letter == 99) (two set_cost numbers)
-    (cond (letter == 104) (one move_to numbers)
-    (cond (letter == 115) (one stretch_to numbers)
-    (cond (letter == 114) (then (one (λ n. n) numbers) search_of)
-    None))))
+form_of letter [] = None
+form_of letter (n ∷ []) = form_of_one letter n
+form_of letter (arc ∷ cost ∷ []) = cond (letter == 99) (Some (Set arc cost)) None
+form_of letter (here ∷ landing ∷ slack ∷ []) = cond (letter == 98) (Some (Begin here landing slack)) None
+form_of letter (n₁ ∷ n₂ ∷ n₃ ∷ n₄ ∷ more) = None
 
 -- one arc at least, and no more than 256 or than the list has room for
 abbrev pub sum_of : ℕ → List ℕ → Option Typed
-sum_of room arcs = cond (length arcs == 0 || nat_lt (min 256 room) (length arcs)) None (Some (sum_over arcs))
+sum_of room arcs = cond (length arcs == 0 || nat_lt (min 256 room) (length arcs)) None (Some (Sum arcs))
 
 -- the call of a letter and the numbers behind it; t comes with arcs
 abbrev pub call_of : ℕ → ℕ → List ℕ → Option Typed
@@ -76,37 +56,41 @@ call_of room letter numbers = cond (letter == 116) (sum_of room numbers) (form_o
 -- the call that a line says, its arcs for a list of `room` entries: p alone, or a letter, a space, and numbers parted by single spaces
 unfoldable pub call_in : ℕ → List ℕ → Option Typed
 call_in room [] = None
-call_in room (letter ∷ []) = cond (letter == 112) (Some route) None
-call_in room (letter ∷ next ∷ rest) = cond (next == 32) (then (numbers_in (fields_of rest)) (call_of room letter)) None
+call_in room (letter ∷ []) = cond (letter == 112) (Some Route) None
+call_in room (letter ∷ next ∷ rest) =
+    cond (next == 32) (option_and_then (call_of room letter) (numbers_in (fields_of rest))) None
 
 -- how the reader tells a call: of arcs it says how many there are
-abbrev pub told : Typed → TypedCall
-told (begin_at here landing slack) = Begin here landing slack
-told (set_cost arc cost) = Set arc cost
-told (move_to place) = Move place
-told (stretch_to slack) = Stretch slack
-told (search_for turns) = Search turns
-told route = Route
-told (sum_over arcs) = Sum (length arcs)
+abbrev pub told : Typed → Call ℕ
+told (Begin here landing slack) = Begin here landing slack
+told (Set arc cost) = Set arc cost
+told (Move place) = Move place
+told (Stretch slack) = Stretch slack
+told (Search turns) = Search turns
+told Route = Route
+told (Sum arcs) = Sum (length arcs)
 
 -- what the reader answers
-abbrev pub answer_of : Option Typed → Result TypedCall Refusal
-answer_of None = Err NoCall
-answer_of (Some call) = Ok (told call)
+abbrev pub answer_of : Option Typed → Result (Call ℕ) Refusal
+answer_of call = ok_or (option_map told call) NoCall
 
--- the list after the reader: typed arcs stand at its front, and all else is as it was
-abbrev pub Left : Option Typed → List ℕ → List ℕ → Type 0
-Left None was list = list ≡ was
-Left (Some (begin_at here landing slack)) was list = list ≡ was
-Left (Some (set_cost arc cost)) was list = list ≡ was
-Left (Some (move_to place)) was list = list ≡ was
-Left (Some (stretch_to slack)) was list = list ≡ was
-Left (Some (search_for turns)) was list = list ≡ was
-Left (Some route) was list = list ≡ was
-Left (Some (sum_over arcs)) was list = (take (length arcs) list ≡ arcs) × (drop (length arcs) list ≡ drop (length arcs) was)
+-- the arcs that a call comes with
+abbrev pub arcs_in : Option Typed → List ℕ
+arcs_in None = []
+arcs_in (Some (Begin here landing slack)) = []
+arcs_in (Some (Set arc cost)) = []
+arcs_in (Some (Move place)) = []
+arcs_in (Some (Stretch slack)) = []
+arcs_in (Some (Search turns)) = []
+arcs_in (Some Route) = []
+arcs_in (Some (Sum arcs)) = arcs
+
+-- the list after the reader: the call's arcs stand at its front, and all else is as it was
+abbrev pub list_with : Option Typed → List ℕ → List ℕ
+list_with call list = arcs_in call ++ drop (length (arcs_in call)) list
 
 -- as many arcs as a Sum tells are in the list, and no more than 256
-abbrev pub Within : ℕ → TypedCall → Type 0
+abbrev pub Within : ℕ → Call ℕ → Type 0
 Within room (Begin here landing slack) = Unit {0}
 Within room (Set arc cost) = Unit {0}
 Within room (Move place) = Unit {0}

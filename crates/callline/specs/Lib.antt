@@ -1,3 +1,2 @@
 pub mod CallLines
-pub mod Passes
 pub mod WrittenOut

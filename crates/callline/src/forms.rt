@@ -1,47 +1,42 @@
 // The calls whose letter comes with a fixed count of numbers.
 ghost use Rattle.std.specs.Prelude.{◌≡◌};
-ghost use Rattle.std.specs.Option.{option_map};
+ghost use Rattle.std.specs.Option.{option_map, option_and_then};
 ghost use Rattle.text.specs.Pieces.{fields_of};
-ghost use Rattle.callline.specs.CallLines.{numbers_in, then, form_of, search_of, told};
+ghost use Rattle.callline.specs.CallLines.{numbers_in, form_of, told};
 
-use crate::few::{one_number, three_numbers, two_numbers};
-use crate::typed::TypedCall;
+use crate::numbers::numbers;
+use terms::call::Call;
 
-fn search(turns: u32) -> Option<TypedCall>
-    ensures { result ≡ option_map told (search_of turns) }
-{
-    match u16::try_from(turns) {
-        Ok(turns) => Some(TypedCall::Search { turns }),
-        Err(_) => None,
-    }
-}
-
-// The call of a letter, whose numbers are typed in `numbers`.
-pub fn form(letter: u8, numbers: &[u8]) -> Option<TypedCall>
-    ensures { result ≡ option_map told (then (numbers_in (fields_of numbers.now)) (form_of letter)) }
+// The call of a letter, whose numbers are typed in `text`.
+pub fn form(letter: u8, text: &[u8]) -> Option<Call<usize>>
+    ensures { result ≡ option_map told (option_and_then (form_of letter) (numbers_in (fields_of text.now))) }
 {
     match letter {
         b'b' => {
-            let (here, landing, slack) = three_numbers(numbers)?;
-            Some(TypedCall::Begin {
+            let [here, landing, slack] = numbers::<3>(text)?;
+            Some(Call::Begin {
                 here,
                 landing,
                 slack,
             })
         }
         b'c' => {
-            let (arc, cost) = two_numbers(numbers)?;
-            Some(TypedCall::Set { arc, cost })
+            let [arc, cost] = numbers::<2>(text)?;
+            Some(Call::Set { arc, cost })
         }
         b'h' => {
-            let place = one_number(numbers)?;
-            Some(TypedCall::Move { place })
+            let [place] = numbers::<1>(text)?;
+            Some(Call::Move { place })
         }
         b's' => {
-            let slack = one_number(numbers)?;
-            Some(TypedCall::Stretch { slack })
+            let [slack] = numbers::<1>(text)?;
+            Some(Call::Stretch { slack })
         }
-        b'r' => search(one_number(numbers)?),
+        b'r' => {
+            let [turns] = numbers::<1>(text)?;
+            let turns = u16::try_from(turns).ok()?;
+            Some(Call::Search { turns })
+        }
         _ => None,
     }
 }

@@ -1,23 +1,23 @@
 // The call that asks what typed arcs cost.
 ghost use Rattle.std.specs.Prelude.{◌≡◌, length};
-ghost use Rattle.std.specs.Option.{option_map};
+ghost use Rattle.std.specs.Option.{option_map, option_and_then};
 ghost use Rattle.text.specs.Pieces.{fields_of};
-ghost use Rattle.callline.specs.CallLines.{numbers_in, then, sum_of, told, Left};
+ghost use Rattle.callline.specs.CallLines.{numbers_in, sum_of, told, list_with};
 
-use crate::many::{count, write};
-use crate::typed::TypedCall;
+use crate::numbers::{count, read};
+use terms::call::Call;
 
 const MOST: usize = 256;
 
 // The arcs are counted and checked first, so that the list is touched only where the call is one.
-pub fn sum(text: &[u8], list: &mut [u32]) -> Option<TypedCall>
-    ensures answer { result ≡ option_map told (then (numbers_in (fields_of text.now)) (sum_of (length list.old))) }
-    ensures list { Left (then (numbers_in (fields_of text.now)) (sum_of (length list.old))) list.old list.new }
+pub fn sum(text: &[u8], list: &mut [u32]) -> Option<Call<usize>>
+    ensures answer { result ≡ option_map told (option_and_then (sum_of (length list.old)) (numbers_in (fields_of text.now))) }
+    ensures list { list.new ≡ list_with (option_and_then (sum_of (length list.old)) (numbers_in (fields_of text.now))) list.old }
 {
     let arcs = count(text)?;
     if arcs > MOST.min(list.len()) {
         return None;
     }
-    write(text, list);
-    Some(TypedCall::Sum { arcs })
+    read(text, &mut list[..arcs])?;
+    Some(Call::Sum { arcs })
 }

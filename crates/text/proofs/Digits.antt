@@ -1,21 +1,32 @@
--- Digits, one at a time. Assumes nothing.
-use Rattle.std.proofs.Common.{◌≡◌, ℕ, ◌+◌, ◌*◌, ◌^◌, ◌<◌, ◌≤◌, true, ◌&&◌, List, length, get_or, drop, pow-suc, add-one, arith}
-use native.Mathlib.Nat.{pow-le-pow_right}
-use Rattle.std.proofs.lemmas.List.{at_drop_more}
-use Rattle.std.proofs.lemmas.Bool.{and_parts, leb-true}
+-- Fields of digits. Assumes nothing.
+use Rattle.std.proofs.Common.{◌≡◌, ℕ, ◌^◌, ◌<◌, ◌≤◌, true, List, length, Ok, Result, decimal, IsUtf8, arith, rules}
 use Rattle.std.specs.Char.{is_ascii_digit}
-use Rattle.std.specs.Str.{all_ascii_digits}
+use Rattle.std.specs.List.{list_all}
+use Rattle.std.specs.Result.{OkIff}
+use Rattle.std.specs.Str.Parse.{digits_value, ParsesUnsigned}
+use Rattle.std.proofs.lemmas.Bool.Decides.{nat_tests}
+use Rattle.std.proofs.lemmas.Fmt.{decimal_nonempty, digits_decimal, digits_value-decimal, length-decimal-le, IsAscii-from_digits}
+use Rattle.std.proofs.lemmas.Str.{IsUtf8-from_ascii}
+use Rattle.std.proofs.lemmas.Str.Parse.{IsNumeralModel, numerals_by_value, parse_digits}
+use Rattle.terms.specs.Amounts.{far}
+use Rattle.text.specs.Numbers.{number_of}
 
-pub digits_more : (bs : List ℕ) (i : ℕ) → i < length bs → all_ascii_digits (drop i bs) ≡ (is_ascii_digit (get_or bs i 0) && all_ascii_digits (drop (i + 1) bs))
-digits_more bs i h = at_drop_more all_ascii_digits bs i 0 h
+pub own : IsNumeralModel (λ ds. list_all is_ascii_digit ds ≡ true) (digits_value 10)
+own = numerals_by_value _ (search rules)
 
--- a digit's byte
-pub digit_range : (b : ℕ) → is_ascii_digit b ≡ true → (48 ≤ b) × (b ≤ 57)
-digit_range b h = let p = and_parts _ _ h in (leb-true 48 b p.0, leb-true b 57 p.1)
+-- digits are a text
+pub digits_text : (ds : List ℕ) → list_all is_ascii_digit ds ≡ true → IsUtf8 ds
+digits_text ds e = IsUtf8-from_ascii ds (IsAscii-from_digits ds (own.to ds e))
 
--- one more digit on a number of at most i digits gives one of at most i + 1
-pub one_digit_more : (v i d : ℕ) → v < 10 ^ i → d ≤ 9 → v * 10 + d < 10 ^ (i + 1)
-one_digit_more v i d h k = rw (add-one, pow-suc) (omega arith)
+pub read : {E : Type 0} (ds : List ℕ) (r : Result ℕ E) → ParsesUnsigned 32 10 ds r → list_all is_ascii_digit ds ≡ true → OkIff r ((0 < length ds) × (digits_value 10 ds < 2 ^ 32)) (digits_value 10 ds)
+read ds r h e = parse_digits own 32 ds r h e
 
-pub ten_digits : (v i : ℕ) → v < 10 ^ i → i ≤ 10 → v < 10 ^ 10
-ten_digits v i h k = omega (arith, pow-le-pow_right {n = 10} (omega arith) k)
+-- a number that was written reads back
+pub number_back : (n : ℕ) → n ≤ far → number_of (decimal n) ≡ Ok n
+unfolding number_of
+number_back n small =
+    let some = decimal_nonempty n (omega arith) in
+    let digits = digits_decimal own n (omega arith) in
+    let value = digits_value-decimal own n (omega arith) in
+    let few = length-decimal-le 10 n (omega arith) (omega arith) (omega arith) in
+    grind (arith, nat_tests)

@@ -1,3 +1,2 @@
-pub mod Steps
 pub mod Digits
 pub mod Back

@@ -1,16 +1,13 @@
-// Where a text is to be cut.
-ghost use Rattle.std.specs.Prelude.{◌≡◌, ◌≤◌, length};
-ghost use Rattle.text.specs.Pieces.{before};
+// A text cut in two.
+ghost use Rattle.std.specs.Prelude.{◌≡◌, ◌≢◌, ◌∷◌, ◌++◌, All, MatchOption};
 
-// How many bytes stand before the first `stop`, or how many there are where none is.
-pub fn bytes_before(stop: u8, bytes: &[u8]) -> usize
-    ensures cut { result ≡ before stop bytes.now }
-    ensures within { result ≤ length bytes.now }
+// What stands before the first `stop`, and what follows that; nothing follows where there is none.
+pub fn cut(stop: u8, bytes: &[u8]) -> (&[u8], Option<&[u8]>)
+    ensures before { All (λ b. b ≢ stop) result.0.now }
+    ensures after { MatchOption result.1 (bytes.now ≡ result.0.now) (λ rest. bytes.now ≡ result.0.now ++ stop ∷ rest.now) }
 {
-    for (i, b) in bytes.iter().enumerate() {
-        if *b == stop {
-            return i;
-        }
+    match bytes.iter().position(|b| *b == stop) {
+        Some(at) => (&bytes[..at], Some(&bytes[at + 1..])),
+        None => (bytes, None),
     }
-    bytes.len()
 }

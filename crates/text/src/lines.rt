@@ -1,9 +1,10 @@
 // The lines of a text, one after the other.
-ghost use Rattle.std.specs.Prelude.{◌≡◌, [], ◌∷◌, length, MatchOption};
+ghost use Rattle.std.specs.Prelude.{◌≡◌};
+ghost use Rattle.std.specs.Iterator.{YieldsFirstRef, item_count};
 ghost use Rattle.text.specs.Pieces.{lines_of};
-ghost use Rattle.std.specs.Iterator.{at_most};
 
-use crate::cut::bytes_before;
+use crate::cut::cut;
+use std::marker::Model;
 
 // Byte 10 ends a line, and so does the end of the text; a last byte 10 opens no further line.
 #[derive(Drop)]
@@ -11,9 +12,19 @@ pub struct Lines<'a> {
     rest: &'a [u8],
 }
 
+// The lines that are still to come.
+impl<'a> Model for Lines<'a> {
+    ghost use Rattle.std.specs.Prelude.{ℕ, List};
+    ghost use Rattle.text.specs.Pieces.{lines_of};
+
+    ghost Value = { List (List ℕ) };
+
+    ghost view = { λ lines. lines_of lines.rest.now };
+}
+
 impl<'a> Lines<'a> {
     pub fn new(text: &'a [u8]) -> Lines<'a>
-        ensures { result.rest.now ≡ text.now }
+        ensures { result ≡ lines_of text.now }
     {
         Lines { rest: text }
     }
@@ -22,18 +33,16 @@ impl<'a> Lines<'a> {
 impl<'a> Iterator for Lines<'a> {
     type Item = &'a [u8];
 
-    ghost next_gives = { λ s r t. MatchOption r (lines_of s.rest.now ≡ []) (λ line. lines_of s.rest.now ≡ line.now ∷ lines_of t.rest.now) };
+    ghost next_gives = { YieldsFirstRef (λ lines. lines) };
 
-    ghost remaining = { λ s. at_most (length s.rest.now) };
+    ghost remaining = { item_count (λ lines. lines) };
 
     fn next(&mut self) -> Option<&'a [u8]> {
-        let rest = self.rest;
-        if rest.is_empty() {
+        if self.rest.is_empty() {
             return None;
         }
-        let end = bytes_before(b'\n', rest);
-        let next = (end + 1).min(rest.len());
-        self.rest = &rest[next..];
-        Some(&rest[0..end])
+        let (line, rest) = cut(b'\n', self.rest);
+        self.rest = rest.unwrap_or(&[]);
+        Some(line)
     }
 }

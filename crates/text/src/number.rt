@@ -1,35 +1,33 @@
 // The number that a field writes.
-ghost use Rattle.std.specs.Prelude.{◌≡◌, ◌≤◌, true, length};
-ghost use Rattle.std.specs.Str.{all_ascii_digits};
-ghost use Rattle.text.specs.Numbers.{number_of, value_after};
+ghost use Rattle.std.specs.Prelude.{◌≡◌, ◌<◌, ◌≤◌, true, length};
+ghost use Rattle.std.specs.Char.{is_ascii_digit};
+ghost use Rattle.std.specs.List.{list_all};
+ghost use Rattle.std.specs.Option.{SomeIff};
+ghost use Rattle.std.specs.Str.Parse.{digits_value};
+ghost use Rattle.terms.specs.Amounts.{far};
+ghost use Rattle.text.specs.Numbers.{number_of};
 
+use std::str;
 use terms::fault::NumberFault;
 
 fn all_digits(field: &[u8]) -> bool
-    ensures { result ≡ all_ascii_digits field.now }
+    ensures { result ≡ list_all is_ascii_digit field.now }
 {
-    for b in field {
-        if !b.is_ascii_digit() {
-            return false;
-        }
-    }
-    true
+    field.iter().all(u8::is_ascii_digit)
 }
 
-// What at most ten digits write.
-fn value(digits: &[u8]) -> u64
-    requires digits { all_ascii_digits digits.now ≡ true }
-    requires few { length digits.now ≤ 10 }
-    ensures { result ≡ value_after 0 digits.now }
+// What digits write, if it is at most FAR.
+#[tactic(auto, using(crate::proofs::Digits::digits_text, crate::proofs::Digits::read))]
+fn value(digits: &[u8]) -> Option<u32>
+    requires { list_all is_ascii_digit digits.now ≡ true }
+    ensures { SomeIff result ((0 < length digits.now) × (digits_value 10 digits.now ≤ far)) (digits_value 10 digits.now) }
 {
-    let mut value: u64 = 0;
-    for digit in digits {
-        value = value * 10 + u64::from(*digit - b'0');
-    }
-    value
+    let text = str::from_utf8(digits).unwrap();
+    text.parse().ok()
 }
 
 // The number of a field of one to ten digits that is at most FAR; else the first fault that fits.
+#[tactic(auto, using(std::proofs::lemmas::Bool::Decides::nat_tests), unfolding(crate::specs::Numbers::number_of))]
 pub fn number(field: &[u8]) -> Result<u32, NumberFault>
     ensures { result ≡ number_of field.now }
 {
@@ -42,8 +40,5 @@ pub fn number(field: &[u8]) -> Result<u32, NumberFault>
     if field.len() > 10 {
         return Err(NumberFault::TooLarge);
     }
-    match u32::try_from(value(field)) {
-        Ok(n) => Ok(n),
-        Err(_) => Err(NumberFault::TooLarge),
-    }
+    value(field).ok_or(NumberFault::TooLarge)
 }

@@ -1,8 +1,12 @@
-use Rattle.callline.proofs.Law.{promised, answered}
+use Rattle.std.proofs.Common.{◌≡◌, length, Some, refl, ap, ◌∙◌}
+use Rattle.callline.specs.CallLines.{call_in}
+use Rattle.callline.proofs.Law.{line_back, line_within}
 use Rattle.callline.proofs.read.read_call.Goals as goal
 
-pub returns-in-Some : goal.returns-in-Some
-returns-in-Some c = promised c.args.line.now c.args.list.now _ _ (answered _ _ c.in-Some.ensures.answer) c.typed.ensures.list
+pub returns-clause-within : goal.returns-clause-within
+returns-clause-within c = rw (c.ok_or.ensures.value, c.typed.ensures.answer) (line_within (length c.args.list.now) c.args.line.now)
 
-pub returns-in-None : goal.returns-in-None
-returns-in-None c = promised c.args.line.now c.args.list.now _ _ (answered _ _ c.in-None.ensures.answer) c.typed.ensures.list
+pub returns-clause-back : goal.returns-clause-back
+returns-clause-back c = λ call e t.
+    let is : call_in (length c.args.list.now) c.args.line.now ≡ Some call = ap (call_in (length c.args.list.now)) e ∙ line_back (length c.args.list.now) call t in
+    rw (c.ok_or.ensures.value, c.typed.ensures.answer, c.typed.ensures.list, is) (refl, refl)

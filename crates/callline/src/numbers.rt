@@ -1,0 +1,42 @@
+// Numbers typed in a row, single spaces between them.
+ghost use Rattle.std.specs.Prelude.{◌≡◌, length, MatchOption};
+ghost use Rattle.std.specs.Option.{option_map, option_and_then};
+ghost use Rattle.text.specs.Pieces.{fields_of};
+ghost use Rattle.callline.specs.CallLines.{numbers_in, exactly};
+
+use text::fields::Fields;
+use text::number::number;
+
+// How many numbers are typed, if each field writes one.
+pub fn count(text: &[u8]) -> Option<usize>
+    ensures { result ≡ option_map length (numbers_in (fields_of text.now)) }
+{
+    if Fields::new(text).all(|field| number(field).is_ok()) {
+        Some(Fields::new(text).count())
+    } else {
+        None
+    }
+}
+
+// The numbers that are typed, if there are as many as the list has places.
+pub fn read(text: &[u8], list: &mut [u32]) -> Option<()>
+    ensures { MatchOption result (option_and_then (exactly (length list.old)) (numbers_in (fields_of text.now)) ≡ None) (λ _. option_and_then (exactly (length list.old)) (numbers_in (fields_of text.now)) ≡ Some list.new) }
+{
+    let mut fields = Fields::new(text);
+    for place in list.iter_mut() {
+        *place = number(fields.next()?).ok()?;
+    }
+    match fields.next() {
+        None => Some(()),
+        Some(_) => None,
+    }
+}
+
+// Just N numbers.
+pub fn numbers<const N: usize>(text: &[u8]) -> Option<[u32; N]>
+    ensures { result ≡ option_and_then (exactly N) (numbers_in (fields_of text.now)) }
+{
+    let mut numbers = [0; N];
+    read(text, &mut numbers)?;
+    Some(numbers)
+}
