@@ -22,42 +22,38 @@ impl Ground for Ferry {
     }
 
     fn tail(&self, arc: u32) -> Option<u32> {
-        if arc < 2 { Some(arc) } else { None }
+        (arc < 2).then_some(arc)
     }
 
     fn head(&self, arc: u32) -> Option<u32> {
-        if arc < 2 { Some(1 - arc) } else { None }
+        (arc < 2).then(|| 1 - arc)
     }
 
     fn least(&self, arc: u32) -> Option<u32> {
-        if arc < 2 { Some(100) } else { None }
+        (arc < 2).then_some(100)
     }
 
     fn estimate(&self, from: u32, to: u32) -> Option<u32> {
-        if from < 2 && to < 2 { Some(0) } else { None }
+        (from < 2 && to < 2).then_some(0)
     }
 
+    #[tactic(auto, using(crate::proofs::Banks::count_from_bank))]
     fn leaving_count(&self, place: u32) -> u32 {
-        if place < 2 { 1 } else { 0 }
+        u32::from(place < 2)
     }
 
+    #[tactic(auto, using(crate::proofs::Banks::count_to_bank))]
     fn entering_count(&self, place: u32) -> u32 {
-        if place < 2 { 1 } else { 0 }
+        u32::from(place < 2)
     }
 
+    #[tactic(auto, using(crate::proofs::Banks::arc_from_bank))]
     fn leaving(&self, place: u32, k: u32) -> Option<u32> {
-        if place < 2 && k == 0 {
-            Some(place)
-        } else {
-            None
-        }
+        (place < 2 && k == 0).then_some(place)
     }
 
+    #[tactic(auto, using(crate::proofs::Banks::arc_to_bank))]
     fn entering(&self, place: u32, k: u32) -> Option<u32> {
-        if place < 2 && k == 0 {
-            Some(1 - place)
-        } else {
-            None
-        }
+        (place < 2 && k == 0).then(|| 1 - place)
     }
 }

@@ -1,3 +1,4 @@
 pub mod Beside
-pub mod Leaving
 pub mod Entering
+pub mod Inner
+pub mod Leaving

@@ -9,6 +9,7 @@ use Rattle.ground.specs.KnownLaws.{not_both, one_answer, known_some, known_there
 use Rattle.ground.specs.Meanings.{Lawful}
 use Rattle.grid.specs.Compass.{less, same, more, step_of, moved, place_at, beside, neighbour}
 use Rattle.grid.specs.Grids.{gridded, estimated, apart}
+use Rattle.grid.specs.declared.grid.Grid.{Grid}
 
 -- what holds of 0 to 7 holds of every direction
 pub by_direction : (P : ℕ → Type 0) → P 0 → P 1 → P 2 → P 3 → P 4 → P 5 → P 6 → P 7 → (d : ℕ) → d < 8 → P d
@@ -57,8 +58,8 @@ pub record Beside (rows columns p d s : ℕ) : Type 0 where
   pub row_in : row < rows
   pub column_in : column < columns
   pub place : s ≡ row * columns + column
-  pub row_moved : Moved (p / columns) row (step_of d).0
-  pub column_moved : Moved (p % columns) column (step_of d).1
+  pub row_moved : Moved (p / columns) row (step_of d).rows
+  pub column_moved : Moved (p % columns) column (step_of d).columns
 
 module _ (rows columns : ℕ) (some : 1 ≤ columns) where
   pub row_of : (p : ℕ) → p < rows * columns → p / columns < rows
@@ -69,21 +70,21 @@ module _ (rows columns : ℕ) (some : 1 ≤ columns) where
 
   pub neighbour_is : (p d s : ℕ) → p < rows * columns → neighbour rows columns p d ≡ Some s → Beside rows columns p d s
   unfolding beside
-  neighbour_is p d s h e = at (moved rows (p / columns) (step_of d).0) (moved columns (p % columns) (step_of d).1) refl refl e
+  neighbour_is p d s h e = at (moved rows (p / columns) (step_of d).rows) (moved columns (p % columns) (step_of d).columns) refl refl e
     where
-      at : (r c : Option ℕ) → moved rows (p / columns) (step_of d).0 ≡ r → moved columns (p % columns) (step_of d).1 ≡ c → place_at columns r c ≡ Some s → Beside rows columns p d s
+      at : (r c : Option ℕ) → moved rows (p / columns) (step_of d).rows ≡ r → moved columns (p % columns) (step_of d).columns ≡ c → place_at columns r c ≡ Some s → Beside rows columns p d s
       at None c e f g = absurd (not_both None s g refl)
       at (Some r) None e f g = absurd (not_both None s g refl)
       at (Some r) (Some c) e f g =
-          let v = moved_is rows (p / columns) (step_of d).0 r (row_of p h) e in
-          let w = moved_is columns (p % columns) (step_of d).1 c (column_of p) f in
+          let v = moved_is rows (p / columns) (step_of d).rows r (row_of p h) e in
+          let w = moved_is columns (p % columns) (step_of d).columns c (column_of p) f in
           record { row = r; column = c; row_in = v.0; column_in = w.0; place = one_answer (Some s) s (r * columns + c) refl (sym g); row_moved = v.1; column_moved = w.1 }
 
   pub neighbour_to : (p d s : ℕ) → Beside rows columns p d s → neighbour rows columns p d ≡ Some s
   unfolding beside
   neighbour_to p d s b =
-      ap (λ r. place_at columns r (moved columns (p % columns) (step_of d).1)) (moved_to rows (p / columns) (step_of d).0 b.row b.row_in b.row_moved)
-      ∙ ap (place_at columns (Some b.row)) (moved_to columns (p % columns) (step_of d).1 b.column b.column_in b.column_moved)
+      ap (λ r. place_at columns r (moved columns (p % columns) (step_of d).columns)) (moved_to rows (p / columns) (step_of d).rows b.row b.row_in b.row_moved)
+      ∙ ap (place_at columns (Some b.row)) (moved_to columns (p % columns) (step_of d).columns b.column b.column_in b.column_moved)
       ∙ ap Some (sym b.place)
 
   pub beside_row : (p d s : ℕ) (b : Beside rows columns p d s) → s / columns ≡ b.row
@@ -101,7 +102,7 @@ span x y = 7 * min x y + 5 * (max x y - min x y)
 
 -- one step brings any cell nearer, or farther, by no more than the step's factor
 abbrev Stretches : ℕ → Type 0
-Stretches d = (u v r c r' c' : ℕ) → Moved r r' (step_of d).0 → Moved c c' (step_of d).1 → span (apart u r') (apart v c') ≤ span (apart u r) (apart v c) + (step_of d).2
+Stretches d = (u v r c r' c' : ℕ) → Moved r r' (step_of d).rows → Moved c c' (step_of d).columns → span (apart u r') (apart v c') ≤ span (apart u r) (apart v c) + (step_of d).factor
 
 near : (u r r' k : ℕ) → r' ≤ r + k → r ≤ r' + k → apart u r' ≤ apart u r + k
 near u r r' k a b = omega arith
@@ -131,9 +132,9 @@ stretches =
     (goes 1 0 5 along_rows more same (omega arith) (omega arith)) (goes 1 1 7 slanting more less (omega arith) (omega arith)) (goes 0 1 5 along_columns same less (omega arith) (omega arith)) (goes 1 1 7 slanting less less (omega arith) (omega arith))
 
 -- five or seven times the base
-factors : (d : ℕ) → d < 8 → (5 ≤ (step_of d).2) × ((step_of d).2 ≤ 7)
+factors : (d : ℕ) → d < 8 → (5 ≤ (step_of d).factor) × ((step_of d).factor ≤ 7)
 factors =
-    by_direction (λ d. (5 ≤ (step_of d).2) × ((step_of d).2 ≤ 7)) (omega arith) (omega arith) (omega arith) (omega arith) (omega arith) (omega arith) (omega arith) (omega arith)
+    by_direction (λ d. (5 ≤ (step_of d).factor) × ((step_of d).factor ≤ 7)) (omega arith) (omega arith) (omega arith) (omega arith) (omega arith) (omega arith) (omega arith) (omega arith)
 
 module _ (rows columns base : ℕ) (some : 1 ≤ columns) where
   -- an arc that goes somewhere or back to its own cell
@@ -144,23 +145,23 @@ module _ (rows columns base : ℕ) (some : 1 ≤ columns) where
       at None e = own
       at (Some s) e = other s (neighbour_is rows columns some p d s h e)
 
-  grid_step : (a j : ℕ) → j < 8 * (rows * columns) → (gridded rows columns base).estimate a ((gridded rows columns base).head j) ≤ (gridded rows columns base).estimate a (j / 8) + (step_of (j % 8)).2 * base
+  grid_step : (a j : ℕ) → j < 8 * (rows * columns) → (gridded rows columns base).estimate a ((gridded rows columns base).head j) ≤ (gridded rows columns base).estimate a (j / 8) + (step_of (j % 8)).factor * base
   grid_step a j h =
-      head_of (λ s. est s ≤ est (j / 8) + (step_of (j % 8)).2 * base) (j / 8) (j % 8) (omega arith) (omega arith) away
+      head_of (λ s. est s ≤ est (j / 8) + (step_of (j % 8)).factor * base) (j / 8) (j % 8) (omega arith) (omega arith) away
     where
       est : ℕ → ℕ
       est s = (gridded rows columns base).estimate a s
 
-      away : (s : ℕ) → Beside rows columns (j / 8) (j % 8) s → est s ≤ est (j / 8) + (step_of (j % 8)).2 * base
+      away : (s : ℕ) → Beside rows columns (j / 8) (j % 8) s → est s ≤ est (j / 8) + (step_of (j % 8)).factor * base
       away s b =
           let u = a / columns in
           let v = a % columns in
           let r = j / 8 / columns in
           let c = j / 8 % columns in
-          let x : span (apart u b.row) (apart v b.column) ≤ span (apart u r) (apart v c) + (step_of (j % 8)).2 = stretches (j % 8) (omega arith) u v r c b.row b.column b.row_moved b.column_moved in
+          let x : span (apart u b.row) (apart v b.column) ≤ span (apart u r) (apart v c) + (step_of (j % 8)).factor = stretches (j % 8) (omega arith) u v r c b.row b.column b.row_moved b.column_moved in
           let e : est s ≡ base * span (apart u b.row) (apart v b.column) = ap₂ (λ y z. estimated base (apart u y) (apart v z)) (beside_row rows columns some (j / 8) (j % 8) s b) (beside_column rows columns some (j / 8) (j % 8) s b) ∙ estimated_by base (apart u b.row) (apart v b.column) in
           let f : est (j / 8) ≡ base * span (apart u r) (apart v c) = estimated_by base (apart u r) (apart v c) in
-          omega (arith, mul-le-mul_left base x, mul-add base (span (apart u r) (apart v c)) (step_of (j % 8)).2, mul_comm (step_of (j % 8)).2 base)
+          omega (arith, mul-le-mul_left base x, mul-add base (span (apart u r) (apart v c)) (step_of (j % 8)).factor, mul_comm (step_of (j % 8)).factor base)
 
 close : (x y limit : ℕ) → x < limit → y < limit → limit ≤ 128 → apart x y ≤ 127
 close x y limit a b l = omega arith
@@ -185,11 +186,11 @@ module _ (rows columns base : ℕ) (some_rows : 1 ≤ rows) (few_rows : rows ≤
       let z : base * span (apart (a / columns) (s / columns)) (apart (a % columns) (s % columns)) ≤ 1000 * 889 = mul-le-mul high_base (small_span (apart (a / columns) (s / columns)) (apart (a % columns) (s % columns)) x y) in
       omega (arith, estimated_by base (apart (a / columns) (s / columns)) (apart (a % columns) (s % columns)))
 
-  least_is : (d : ℕ) → d < 8 → (1 ≤ (step_of d).2 * base) × ((step_of d).2 * base ≤ 10000)
+  least_is : (d : ℕ) → d < 8 → (1 ≤ (step_of d).factor * base) × ((step_of d).factor * base ≤ 10000)
   least_is d h =
       let f = factors d h in
-      let low : 5 * 1 ≤ (step_of d).2 * base = mul-le-mul f.0 low_base in
-      let high : (step_of d).2 * base ≤ 7 * 1000 = mul-le-mul f.1 high_base in
+      let low : 5 * 1 ≤ (step_of d).factor * base = mul-le-mul f.0 low_base in
+      let high : (step_of d).factor * base ≤ 7 * 1000 = mul-le-mul f.1 high_base in
       (omega arith, omega arith)
 
   pub gridded_lawful : Lawful (gridded rows columns base)
@@ -204,3 +205,6 @@ module _ (rows columns base : ℕ) (some_rows : 1 ≤ rows) (few_rows : rows ≤
     estimate_self = λ a h. span_self base (a / columns) (a % columns);
     estimate_step = λ a j h k. grid_step rows columns base some_columns a j k;
   }
+
+pub grid_lawful : (g : Grid) → Lawful (gridded g.rows g.columns g.base)
+grid_lawful g = gridded_lawful g.rows g.columns g.base g.some_rows g.few_rows g.some_columns g.few_columns g.low_base g.high_base

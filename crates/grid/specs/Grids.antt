@@ -19,6 +19,6 @@ gridded rows columns base = record {
   arcs = 8 * (rows * columns);
   tail = λ j. j / 8;
   head = λ j. unwrap_or (neighbour rows columns (j / 8) (j % 8)) (j / 8);
-  least = λ j. (step_of (j % 8)).2 * base;
+  least = λ j. (step_of (j % 8)).factor * base;
   estimate = λ a s. estimated base (apart (a / columns) (s / columns)) (apart (a % columns) (s % columns));
 }

@@ -1,39 +1,42 @@
 // The arcs that can enter a cell.
-ghost use Rattle.std.specs.Prelude.{◌≡◌, ◌<◌};
-ghost use Rattle.grid.specs.Entries.{entry_at};
+use crate::compass::Direction;
 
 // The arc back from the neighbour in a direction, or the cell's own arc in a direction, which comes back where it would
 // leave the grid.
 #[derive(Clone, Copy)]
-pub enum Entry {
-    Back(usize),
-    Own(usize),
+pub(crate) enum Entry {
+    Back(Direction),
+    Own(Direction),
 }
 
 // In rising arc number: from the neighbours before the cell, from the cell itself, from the neighbours after it.
-const ENTRIES: [Entry; 16] = [
-    Entry::Back(7),
-    Entry::Back(0),
-    Entry::Back(1),
-    Entry::Back(6),
-    Entry::Own(0),
-    Entry::Own(1),
-    Entry::Own(2),
-    Entry::Own(3),
-    Entry::Own(4),
-    Entry::Own(5),
-    Entry::Own(6),
-    Entry::Own(7),
-    Entry::Back(2),
-    Entry::Back(5),
-    Entry::Back(4),
-    Entry::Back(3),
+pub(crate) const ENTRIES: [Entry; 16] = [
+    Entry::Back(Direction::UpLeft),
+    Entry::Back(Direction::Up),
+    Entry::Back(Direction::UpRight),
+    Entry::Back(Direction::Left),
+    Entry::Own(Direction::Up),
+    Entry::Own(Direction::UpRight),
+    Entry::Own(Direction::Right),
+    Entry::Own(Direction::DownRight),
+    Entry::Own(Direction::Down),
+    Entry::Own(Direction::DownLeft),
+    Entry::Own(Direction::Left),
+    Entry::Own(Direction::UpLeft),
+    Entry::Back(Direction::Right),
+    Entry::Back(Direction::DownLeft),
+    Entry::Back(Direction::Down),
+    Entry::Back(Direction::DownRight),
 ];
 
-// The entry at a place of the table.
-pub(crate) fn entry_at(i: usize) -> Entry
-    requires { i < 16 }
-    ensures { result ≡ entry_at i }
-{
-    ENTRIES[i]
-}
+// The neighbours alone, in the same order: what enters a cell that has all eight.
+pub(crate) const NEIGHBOURS: [Direction; 8] = [
+    Direction::UpLeft,
+    Direction::Up,
+    Direction::UpRight,
+    Direction::Left,
+    Direction::Right,
+    Direction::DownLeft,
+    Direction::Down,
+    Direction::DownRight,
+];

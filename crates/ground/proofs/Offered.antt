@@ -1,16 +1,11 @@
--- A filter that is met by trying candidates in turn.
-use Rattle.std.proofs.Common.{◌≡◌, ℕ, zero, suc, ◌+◌, ◌-◌, ◌<◌, ◌≤◌, Bool, true, false, eqb, ◌⊎◌, List, [], ◌∷◌, ◌++◌, length, Some, None, filter, Option, sym, refl, ap, ◌∙◌, ap₂, inl, inr, arith}
+-- A filter that is met by trying candidates in turn: what they offer is what it keeps.
+use Rattle.std.proofs.Common.{◌≡◌, ℕ, zero, suc, ◌+◌, ◌-◌, ◌<◌, ◌≤◌, Bool, true, false, eqb, ◌⊎◌, ◌∷◌, ◌++◌, Some, None, filter, Option, sym, refl, ap, ◌∙◌, inl, inr, arith}
 use Rattle.std.proofs.lemmas.List.Elements.{filter-append}
 use Rattle.std.proofs.lemmas.Bool.{cases_Bool, cases_eq, cond-true}
-use Rattle.std.specs.List.{range_with_len, slice_get}
+use Rattle.std.specs.List.{range_with_len, filter_map, cons_option}
 use Rattle.ground.specs.Questions.{arcs_at}
 use Rattle.ground.specs.KnownLaws.{not_both, one_answer}
 use Rattle.ground.proofs.ArcsAt.{counting_append, kept_none}
-
--- what the candidates i, i + 1, .. offer, n of them
-unfoldable pub offered : (ℕ → Option ℕ) → ℕ → ℕ → List ℕ
-offered c i zero = []
-offered c i (suc n) = elim (c i) [ Some x ↦ x ∷ offered c (i + 1) n | None ↦ offered c (i + 1) n ]
 
 -- Candidates that offer rising numbers, all of them passing, and each that passes, offer what a filter keeps.
 pub record Offers (test : ℕ → Bool) (c : ℕ → Option ℕ) (n m : ℕ) : Type 0 where
@@ -29,7 +24,7 @@ module _ (test : ℕ → Bool) (c : ℕ → Option ℕ) (n m : ℕ) (o : Offers 
   Here i a = (j : ℕ) → a ≤ j → j < m → test j ≡ true → (h : ℕ) × (i ≤ h) × (h < n) × (c h ≡ Some j)
 
   abbrev Kept : ℕ → ℕ → Type 0
-  Kept i k = (a b : ℕ) → i + k ≡ n → a + b ≡ m → Low i a → Here i a → filter test (range_with_len a b) ≡ offered c i k
+  Kept i k = (a b : ℕ) → i + k ≡ n → a + b ≡ m → Low i a → Here i a → filter test (range_with_len a b) ≡ filter_map c (range_with_len i k)
 
   passed_by : (i : ℕ) → c i ≡ None → (a : ℕ) → Here i a → Here (i + 1) a
   passed_by i none a here j l h t =
@@ -42,7 +37,7 @@ module _ (test : ℕ → Bool) (c : ℕ → Option ℕ) (n m : ℕ) (o : Offers 
       let w = here j l h t in
       elim (cases_eq w.0 i) [ inl e ↦ inl (one_answer (c i) j x (ap c (sym e) ∙ w.3) some) | inr ne ↦ (let later : i < w.0 = omega arith in inr (w.0, omega arith, w.2, w.3, o.rising i w.0 x j later w.2 some w.3)) ]
 
-  offered_next : (i k : ℕ) → Kept (i + 1) k → (v : Option ℕ) → c i ≡ v → (a b : ℕ) → i + suc k ≡ n → a + b ≡ m → Low i a → Here i a → filter test (range_with_len a b) ≡ (elim v [ Some x ↦ x ∷ offered c (i + 1) k | None ↦ offered c (i + 1) k ])
+  offered_next : (i k : ℕ) → Kept (i + 1) k → (v : Option ℕ) → c i ≡ v → (a b : ℕ) → i + suc k ≡ n → a + b ≡ m → Low i a → Here i a → filter test (range_with_len a b) ≡ cons_option v (filter_map c (range_with_len (i + 1) k))
   offered_next i k rest None v a b e f low here = rest a b (omega arith) f (λ h x l. low h x (omega arith)) (passed_by i v a here)
   offered_next i k rest (Some x) v a b e f low here =
       let lt : i < n = omega arith in
@@ -68,56 +63,14 @@ module _ (test : ℕ → Bool) (c : ℕ → Option ℕ) (n m : ℕ) (o : Offers 
       after j l h t = let from : a ≤ x = low i x (omega arith) (omega arith) v in let w = taken i x v (omega arith) a here j (omega arith) h t in elim w [ inl e ↦ absurd (omega arith) | inr w ↦ (w.0, w.1, w.2, w.3) ]
 
   offered_kept : (k i : ℕ) → Kept i k
-  unfolding offered
   offered_kept zero i a b e f low here =
       kept_none test a b (λ j l h. elim (cases_Bool (test j)) [ inl t ↦ (let w = here j l (omega arith) t in absurd (omega arith)) | inr t ↦ t ])
   offered_kept (suc k) i a b e f low here = offered_next i k (offered_kept k (i + 1)) (c i) refl a b e f low here
 
-  pub kept_offered : filter test (range_with_len 0 m) ≡ offered c 0 n
+  pub kept_offered : filter test (range_with_len 0 m) ≡ filter_map c (range_with_len 0 n)
   kept_offered = offered_kept n 0 0 m (omega arith) (omega arith) (λ h x l g e. omega arith) (λ j l h t. let w = o.whole j h t in (w.0, omega arith, w.1, w.2))
 
 -- the arcs at a place, as the candidates for them offer them
-pub arcs_at-offered : (end : ℕ → ℕ) (c : ℕ → Option ℕ) (n m p : ℕ) → Offers (λ j. eqb (end j) p) c n m → arcs_at end m p ≡ offered c 0 n
+pub arcs_at-offered : (end : ℕ → ℕ) (c : ℕ → Option ℕ) (n m p : ℕ) → Offers (λ j. eqb (end j) p) c n m → arcs_at end m p ≡ filter_map c (range_with_len 0 n)
 unfolding arcs_at
 arcs_at-offered end c n m p o = kept_offered (λ j. eqb (end j) p) c n m o
-
--- a walk over n candidates: the next one offers something, or nothing, or there is no next
-module _ (c : ℕ → Option ℕ) (n i : ℕ) where
-  offered_at : (v : Option ℕ) → i < n → c i ≡ v → offered c i (n - i) ≡ (elim v [ Some x ↦ x ∷ offered c (i + 1) (n - (i + 1)) | None ↦ offered c (i + 1) (n - (i + 1)) ])
-  unfolding offered
-  offered_at v l e =
-      let s : n - i ≡ suc (n - (i + 1)) = omega arith in
-      ap (offered c i) s ∙ ap (λ w. elim w [ Some x ↦ x ∷ offered c (i + 1) (n - (i + 1)) | None ↦ offered c (i + 1) (n - (i + 1)) ]) e
-
-  pub walk_here : (x : ℕ) → i < n → c i ≡ Some x → slice_get (offered c i (n - i)) 0 ≡ Some x
-  walk_here x l e = ap (λ xs. slice_get xs 0) (offered_at (Some x) l e)
-
-  pub walk_past : (x left : ℕ) → i < n → c i ≡ Some x → 0 < left → slice_get (offered c i (n - i)) left ≡ slice_get (offered c (i + 1) (n - (i + 1))) (left - 1)
-  walk_past x left l e h =
-      let s : left ≡ suc (left - 1) = omega arith in
-      ap₂ slice_get (offered_at (Some x) l e) s
-
-  pub walk_on : (left : ℕ) → i < n → c i ≡ None → slice_get (offered c i (n - i)) left ≡ slice_get (offered c (i + 1) (n - (i + 1))) left
-  walk_on left l e = ap (λ xs. slice_get xs left) (offered_at None l e)
-
-  pub walk_over : (left : ℕ) → n ≤ i → slice_get (offered c i (n - i)) left ≡ None
-  unfolding offered
-  walk_over left l = let s : n - i ≡ 0 = omega arith in ap (λ k. slice_get (offered c i k) left) s
-
--- 1 for an offer, and 0 for none
-unfoldable pub ones : Option ℕ → ℕ
-ones (Some x) = 1
-ones None = 0
-
-abbrev pub offers : (ℕ → Option ℕ) → ℕ → ℕ → ℕ
-offers c i zero = 0
-offers c i (suc n) = ones (c i) + offers c (i + 1) n
-
-pub length_offered : (c : ℕ → Option ℕ) (i n : ℕ) → length (offered c i n) ≡ offers c i n
-unfolding ones offered
-length_offered c i zero = refl
-length_offered c i (suc n) = at (c i) (length_offered c (i + 1) n)
-  where
-    at : (v : Option ℕ) → length (offered c (i + 1) n) ≡ offers c (i + 1) n → length (elim v as (λ _. List ℕ) [ Some x ↦ x ∷ offered c (i + 1) n | None ↦ offered c (i + 1) n ]) ≡ ones v + offers c (i + 1) n
-    at (Some x) e = omega arith
-    at None e = omega arith

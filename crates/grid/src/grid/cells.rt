@@ -1,97 +1,116 @@
-// Where the steps of the compass lead from a cell.
-ghost use Rattle.std.specs.Prelude.{◌≡◌, ◌+◌, ◌*◌, ◌/◌, ◌%◌, ◌<◌, if◌then◌else◌, nat_lt};
-ghost use Rattle.grid.specs.Compass.{moved as shifted, beside as neighbour_of};
-ghost use Rattle.grid.specs.Entries.{entering};
+// The cells of a grid, and where the steps of the compass lead from them.
+ghost use Rattle.std.specs.Prelude.{◌≡◌, ◌+◌, ◌*◌, ◌/◌, ◌%◌, ◌<◌, ◌≤◌, MatchOption, IfSome};
+ghost use Rattle.std.specs.List.{slice_get};
+ghost use Rattle.std.specs.Option.{option_map};
+ghost use Rattle.grid.specs.Compass.{number, moved as shifted, neighbour, is_inner};
+ghost use Rattle.grid.specs.Entries.{entering, arcs_into_cell};
 
-use crate::compass::step_in;
-use crate::entries::{Entry, entry_at};
+use crate::compass::Direction;
+use crate::entries::{ENTRIES, Entry, NEIGHBOURS};
 use crate::grid::Grid;
 
-// A cell by its row and its column.
+// A place of a grid, with its row and its column.
 #[derive(Clone, Copy)]
-pub struct Cell {
-    row: u32,
-    column: u32,
+pub(super) struct Cell {
+    grid: Grid,
+    pub place: u32,
+    pub row: u32,
+    pub column: u32,
+    ghost there: { place < grid.rows * grid.columns },
+    ghost row_is: { row ≡ place / grid.columns },
+    ghost column_is: { column ≡ place % grid.columns },
 }
 
 // The row or the column that a step leads to, if it is one of so many.
 fn moved(limit: u32, at: u32, by: i32) -> Option<u32>
     requires { at < limit }
-    ensures { result ≡ shifted limit at by }
+    ensures to { result ≡ shifted limit at by }
+    ensures within { IfSome result (λ to. to < limit) }
 {
-    match at.checked_add_signed(by) {
-        Some(to) if to < limit => Some(to),
-        _ => None,
-    }
-}
-
-// The arc that leaves a place in a direction.
-pub(crate) fn arc_from(place: u32, direction: u32) -> u32
-    requires { (place < 16384) × (direction < 8) }
-    ensures { result ≡ 8 * place + direction }
-{
-    8 * place + direction
+    at.checked_add_signed(by).filter(|to| *to < limit)
 }
 
 impl Grid {
-    // How many arcs there are at either end of a cell: one for each direction.
-    pub(super) fn degree(&self, place: u32) -> u32
-        ensures { result ≡ (if nat_lt place (self.now.rows * self.now.columns) then 8 else 0) }
+    // The cell at a place, if there is one.
+    pub(super) fn cell(&self, place: u32) -> Option<Cell>
+        ensures { MatchOption result (self.now.rows * self.now.columns ≤ place) (λ cell. (cell.grid ≡ self.now) × (cell.place ≡ place)) }
     {
-        if place < self.rows * self.columns {
-            8
-        } else {
-            0
+        if place >= self.rows * self.columns {
+            return None;
         }
-    }
-
-    // The place at a row and a column.
-    fn place_at(&self, row: u32, column: u32) -> u32
-        requires { (row < self.now.rows) × (column < self.now.columns) }
-        ensures { result ≡ row * self.now.columns + column }
-    {
-        row * self.columns + column
-    }
-
-    // The cell at a place.
-    pub(super) fn cell(&self, place: u32) -> Cell
-        requires { place < self.now.rows * self.now.columns }
-        ensures row { (result.row ≡ place / self.now.columns) × (result.row < self.now.rows) }
-        ensures column { (result.column ≡ place % self.now.columns) × (result.column < self.now.columns) }
-    {
-        Cell {
+        Some(Cell {
+            grid: *self,
+            place,
             row: place / self.columns,
             column: place % self.columns,
+        })
+    }
+}
+
+impl Cell {
+    // Whether all eight neighbours are on the grid.
+    fn is_inner(self) -> bool
+        ensures { result ≡ is_inner self.grid.rows self.grid.columns self.place }
+    {
+        (1..self.grid.rows - 1).contains(&self.row)
+            && (1..self.grid.columns - 1).contains(&self.column)
+    }
+
+    // The cell beside it, unless that is off the grid.
+    pub(super) fn beside(self, direction: Direction) -> Option<Cell>
+        ensures place { option_map (λ cell. cell.place) result ≡ neighbour self.grid.rows self.grid.columns self.place (number direction) }
+        ensures same { IfSome result (λ cell. cell.grid ≡ self.grid) }
+    {
+        let step = direction.step();
+        let row = moved(self.grid.rows, self.row, step.rows)?;
+        let column = moved(self.grid.columns, self.column, step.columns)?;
+        Some(Cell {
+            grid: self.grid,
+            place: row * self.grid.columns + column,
+            row,
+            column,
+        })
+    }
+
+    // The arc that leaves it in a direction.
+    fn arc(self, direction: Direction) -> u32
+        ensures { result ≡ 8 * self.place + number direction }
+    {
+        8 * self.place + direction as u32
+    }
+
+    // The arc by which an entry of the table comes in, if there is one.
+    fn entered_by(self, entry: Entry) -> Option<u32>
+        ensures { result ≡ entering self.grid.rows self.grid.columns self.place entry }
+    {
+        match entry {
+            Entry::Back(direction) => Some(self.beside(direction)?.arc(direction.opposite())),
+            Entry::Own(direction) => self
+                .beside(direction)
+                .is_none()
+                .then(|| self.arc(direction)),
         }
     }
 
-    // The place beside a cell, unless that is off the grid.
-    pub(super) fn beside(&self, cell: Cell, direction: usize) -> Option<u32>
-        requires { (cell.row < self.now.rows) × ((cell.column < self.now.columns) × (direction < 8)) }
-        ensures { result ≡ neighbour_of self.now.rows self.now.columns cell.row cell.column direction }
+    // The k-th arc that enters it, by the table of entries. Out of line, since only a border needs the walk.
+    #[inline(never)]
+    fn entered(self, k: usize) -> Option<u32>
+        ensures { result ≡ slice_get (arcs_into_cell self.grid.rows self.grid.columns self.place) k }
     {
-        let (by_row, by_column, _) = step_in(direction);
-        let to_row = moved(self.rows, cell.row, by_row)?;
-        let to_column = moved(self.columns, cell.column, by_column)?;
-        Some(self.place_at(to_row, to_column))
+        ENTRIES
+            .iter()
+            .filter_map(|entry| self.entered_by(*entry))
+            .nth(k)
     }
 
-    // The arc by which the cell at a place is entered, if there is one at that entry of the table.
-    pub(super) fn entered_by(&self, place: u32, cell: Cell, i: usize) -> Option<u32>
-        requires place_bound { (place < self.now.rows * self.now.columns) × (i < 16) }
-        requires row_value { (cell.row ≡ place / self.now.columns) × (cell.row < self.now.rows) }
-        requires column_value { (cell.column ≡ place % self.now.columns) × (cell.column < self.now.columns) }
-        ensures { result ≡ entering self.now.rows self.now.columns place i }
+    // The k-th arc that enters it, from 0. An inner cell is entered from each neighbour, and by none of its own arcs.
+    pub(super) fn entering(self, k: usize) -> Option<u32>
+        ensures { result ≡ slice_get (arcs_into_cell self.grid.rows self.grid.columns self.place) k }
     {
-        match entry_at(i) {
-            Entry::Back(direction) => match self.beside(cell, direction) {
-                Some(from) => Some(arc_from(from, (direction as u32 + 4) % 8)),
-                None => None,
-            },
-            Entry::Own(direction) => match self.beside(cell, direction) {
-                Some(_) => None,
-                None => Some(arc_from(place, direction as u32)),
-            },
+        if self.is_inner() {
+            self.entered_by(Entry::Back(*NEIGHBOURS.get(k)?))
+        } else {
+            self.entered(k)
         }
     }
 }
