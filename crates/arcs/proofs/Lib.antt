@@ -1,3 +1,4 @@
 pub mod Fronts
 pub mod Groups
 mod Sorting
+mod Listed

@@ -1,2 +1,4 @@
 pub mod Tables
 pub mod Index
+pub mod Nets
+pub mod Lists

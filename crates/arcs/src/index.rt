@@ -1,73 +1,94 @@
-// An index of arcs by one of their ends, in two tables: an entry for each place, and an entry for each arc.
-ghost use Rattle.std.specs.Prelude.{◌≡◌, ℕ, ◌<◌, List, length};
-ghost use Rattle.ground.specs.Questions.{arcs_at};
+// An index of arcs by one of their ends: the arcs at each place, in two lent tables.
+ghost use Rattle.std.specs.Prelude.{◌≡◌, ◌↔◌, ◌^◌, ◌<◌, length, IsTrue};
 ghost use Rattle.std.specs.List.{slice_get};
-ghost use Rattle.arcs.specs.Index.{start_of, EndsRight, Indexable, Indexed, SameFrom};
-ghost use Rattle.arcs.specs.Tables.{end_at};
+ghost use Rattle.arcs.specs.Index.{Listing, SameFrom};
 
 use crate::end::End;
-use crate::lawful::first_unlawful;
-use crate::sort::{count, deal, stack};
-use terms::arc::Arc;
+use crate::net::Net;
+use crate::sort::sort;
 
-// Sorts the arcs by one end into the order, and writes where each place's arcs end.
-fn sort(end: End, arcs: &[Arc], ends: &mut [u32], order: &mut [u32])
-    requires { Indexable (length ends.old) arcs.now ends.old order.old }
-    ensures done { Indexed (end_at end arcs.now) (length arcs.now) (length ends.old) ends.new order.new }
-    ensures beyond { SameFrom (length arcs.now) order.old order.new }
-{
-    ends.fill(0);
-    count(end, arcs, ends);
-    stack(ends);
-    deal(end, arcs, ends, order);
+#[derive(Drop)]
+pub struct Index<'t> {
+    places: usize,
+    // where the list of each place ends in the order
+    ends: &'t mut [u32],
+    // the lists, one after the other
+    order: &'t mut [u32],
+    ghost listing: { Listing places ends.now order.now },
 }
 
-// Indexes lawful arcs between so many places. Where they are not lawful, or the tables are too short for them, or they
-// are more than a number tells, nothing changes.
-pub fn index(end: End, places: usize, arcs: &[Arc], ends: &mut [u32], order: &mut [u32])
-    ensures done { Indexable places arcs.now ends.old order.old → Indexed (end_at end arcs.now) (length arcs.now) places ends.new order.new }
-    ensures ends { SameFrom places ends.old ends.new }
-    ensures order { SameFrom (length arcs.now) order.old order.new }
-    ensures kept { (Indexable places arcs.now ends.old order.old → ⊥) → (ends.new ≡ ends.old) × (order.new ≡ order.old) }
-{
-    if places > ends.len() || arcs.len() > order.len() || arcs.len() > u32::MAX as usize {
-        return;
-    }
-    if first_unlawful(places, arcs).is_some() {
-        return;
-    }
-    sort(end, arcs, &mut ends[0..places], order);
-}
+impl<'t> Index<'t> {
+    ghost use Rattle.arcs.specs.Lists.{list_at, start_at, HasRoom, Indexes, SameNames};
 
-// The place in the order where the arcs at a place start.
-fn start(ends: &[u32], place: usize) -> u32
-    requires { place < length ends.now }
-    ensures { (end : ℕ → ℕ) (m n : ℕ) → place < n → EndsRight end m n ends.now → result ≡ start_of end m place }
-{
-    if place == 0 { 0 } else { ends[place - 1] }
-}
-
-// How many of the indexed arcs are at a place, in an index over so many places.
-pub fn count_at(places: usize, ends: &[u32], place: usize) -> u32
-    ensures { (end : ℕ → ℕ) (m : ℕ) (order : List ℕ) → Indexed end m places ends.now order → result ≡ length (arcs_at end m place) }
-{
-    if place >= places || place >= ends.len() {
-        return 0;
+    // An index of no places, over two tables.
+    pub fn empty(ends: &'t mut [u32], order: &'t mut [u32]) -> Index<'t>
+        ensures places { result.places ≡ 0 }
+        ensures ends { (result.ends.now ≡ ends.old) × (result.ends.ghost_name ≡ ends.entry.ghost_name) }
+        ensures order { (result.order.now ≡ order.old) × (result.order.ghost_name ≡ order.entry.ghost_name) }
+    {
+        Index {
+            places: 0,
+            ends,
+            order,
+        }
     }
-    ends[place].saturating_sub(start(ends, place))
-}
 
-// The k-th indexed arc at a place, in an index over so many places.
-pub fn kth(places: usize, ends: &[u32], order: &[u32], place: usize, k: u32) -> Option<u32>
-    ensures { (end : ℕ → ℕ) (m : ℕ) → Indexed end m places ends.now order.now → result ≡ slice_get (arcs_at end m place) k }
-{
-    if place >= places || place >= ends.len() {
-        return None;
+    // Whether the tables have an entry for each of so many places and arcs.
+    pub fn has_room(&self, places: usize, arcs: usize) -> bool
+        ensures { IsTrue result ↔ HasRoom self.now places arcs }
+    {
+        places <= self.ends.len() && arcs <= self.order.len()
     }
-    let at = start(ends, place) as usize + k as usize;
-    if at < ends[place] as usize && at < order.len() {
-        Some(order[at])
-    } else {
-        None
+
+    // Indexes the arcs of a net by one end. Where the tables are too short for it, nothing changes.
+    pub fn fill(&mut self, end: End, net: &Net)
+        ensures done { HasRoom self.old net.now.places (length net.now.arcs.now) → Indexes self.new end net.now }
+        ensures kept { (HasRoom self.old net.now.places (length net.now.arcs.now) → ⊥) → self.new ≡ self.old }
+        ensures ends { SameFrom net.now.places self.old.ends.now self.new.ends.now }
+        ensures order { SameFrom (length net.now.arcs.now) self.old.order.now self.new.order.now }
+        ensures same { SameNames self.old self.new }
+    {
+        if !self.has_room(net.places, net.arcs.len()) {
+            return;
+        }
+        sort(end, net, &mut self.ends[..net.places], self.order);
+        self.places = net.places;
+    }
+
+    // Where the list of a place starts in the order.
+    fn start(&self, place: usize) -> usize
+        requires { place < self.now.places }
+        ensures { result ≡ start_at self.now place }
+    {
+        if place == 0 {
+            0
+        } else {
+            self.ends[place - 1] as usize
+        }
+    }
+
+    // The arcs at a place, in rising number.
+    pub fn at(&self, place: usize) -> &[u32]
+        ensures list { result.now ≡ list_at self.now place }
+        ensures few { length result.now < 2 ^ 32 }
+    {
+        if place >= self.places {
+            return &[];
+        }
+        &self.order[self.start(place)..self.ends[place] as usize]
+    }
+
+    // How many arcs are at a place.
+    pub fn count_at(&self, place: usize) -> u32
+        ensures { result ≡ length (list_at self.now place) }
+    {
+        self.at(place).len() as u32
+    }
+
+    // The k-th arc at a place, from 0.
+    pub fn kth(&self, place: usize, k: u32) -> Option<u32>
+        ensures { result ≡ slice_get (list_at self.now place) k }
+    {
+        self.at(place).get(k as usize).copied()
     }
 }

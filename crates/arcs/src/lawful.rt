@@ -1,13 +1,12 @@
 // Which arcs are lawful.
-ghost use Rattle.std.specs.Prelude.{◌≡◌, true, false};
+ghost use Rattle.std.specs.Prelude.{◌↔◌, IsTrue};
 ghost use Rattle.arcs.specs.Tables.{LawfulArc, UnlawfulIs};
 
 use terms::arc::Arc;
 
 // Whether both ends are among the places, and the least cost is one.
 fn lawful(places: usize, arc: Arc) -> bool
-    ensures yes { result ≡ true → LawfulArc places arc }
-    ensures no { result ≡ false → LawfulArc places arc → ⊥ }
+    ensures { IsTrue result ↔ LawfulArc places arc }
 {
     (arc.tail as usize) < places
         && (arc.head as usize) < places
@@ -19,10 +18,5 @@ fn lawful(places: usize, arc: Arc) -> bool
 pub fn first_unlawful(places: usize, arcs: &[Arc]) -> Option<usize>
     ensures { UnlawfulIs places arcs.now result }
 {
-    for (j, arc) in arcs.iter().enumerate() {
-        if !lawful(places, *arc) {
-            return Some(j);
-        }
-    }
-    None
+    arcs.iter().position(|arc| !lawful(places, *arc))
 }

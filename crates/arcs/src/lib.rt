@@ -4,4 +4,5 @@
 pub mod end;
 pub mod index;
 pub mod lawful;
+pub mod net;
 mod sort;

@@ -20,19 +20,6 @@ Steps arcs heights = (j : ℕ) → j < length arcs → StepAt arcs heights j
 abbrev pub LowHeights : ℕ → List ℕ → Type 0
 LowHeights n heights = (p : ℕ) → p < n → height_of heights p ≤ 163830000
 
--- the ends and the least costs of the arcs, one by one
-abbrev pub TailsIn : ℕ → List Arc → Type 0
-TailsIn n arcs = (j : ℕ) → j < length arcs → (arc_at arcs j).tail < n
-
-abbrev pub HeadsIn : ℕ → List Arc → Type 0
-HeadsIn n arcs = (j : ℕ) → j < length arcs → (arc_at arcs j).head < n
-
-abbrev pub LeastsLow : List Arc → Type 0
-LeastsLow arcs = (j : ℕ) → j < length arcs → 1 ≤ (arc_at arcs j).least
-
-abbrev pub LeastsHigh : List Arc → Type 0
-LeastsHigh arcs = (j : ℕ) → j < length arcs → (arc_at arcs j).least ≤ 10000
-
 -- What n places with heights and a table of arcs mean. The estimate is how much higher the second place is, if it is.
 abbrev pub roads_meaning : ℕ → List Arc → List ℕ → Meaning
 roads_meaning n arcs heights = record {

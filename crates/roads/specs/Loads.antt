@@ -56,8 +56,8 @@ pub data Declined (n : ℕ) (arcs : List Arc) (heights : List ℕ) (own : Own) :
   steep : (j : ℕ) → Fits n arcs heights own → AllLawful n arcs → Within n arcs heights → LowestSteep arcs heights j → Declined n arcs heights own (HeightStep j)
 
 -- what is found of the tables
-abbrev pub Judged : ℕ → List Arc → List ℕ → Own → Result (Unit {0}) Refusal → Type 0
-Judged n arcs heights own (Ok u) = Accepted n arcs heights own
+abbrev pub Judged : {X : Type 0} → ℕ → List Arc → List ℕ → Own → Result X Refusal → Type 0
+Judged n arcs heights own (Ok x) = Accepted n arcs heights own
 Judged n arcs heights own (Err e) = Declined n arcs heights own e
 
 -- the heights are copied, and entries beyond the needed ones stay

@@ -1,59 +1,36 @@
-// What has to hold of tables before roads take them.
-ghost use Rattle.std.specs.Prelude.{◌≡◌, ℕ, ◌<◌, ◌≤◌, true, false, length, slice_index};
-ghost use Rattle.arcs.specs.Index.{SameFrom};
-ghost use Rattle.arcs.specs.Tables.{AllLawful};
-ghost use Rattle.roads.specs.Heights.{LowHeights, StepAt};
+// What has to hold of a net and its heights before roads take them.
+ghost use Rattle.std.specs.Prelude.{◌+◌, ◌<◌, ◌≤◌, ◌↔◌, length, IsTrue};
+ghost use Rattle.roads.specs.Heights.{height_of};
 ghost use Rattle.roads.specs.Loads.{SteepIs, Within};
 
+use arcs::net::Net;
 use terms::arc::Arc;
 
-// Whether the heights of the first places are within their limit.
-fn low_heights(places: usize, heights: &[u32]) -> bool
-    requires { places ≤ length heights.now }
-    ensures yes { result ≡ true → LowHeights places heights.now }
-    ensures no { result ≡ false → LowHeights places heights.now → ⊥ }
-{
-    for p in 0..places {
-        if heights[p] > 163_830_000 {
-            return false;
-        }
-    }
-    true
-}
-
 // Whether the number of places, the number of arcs and every height are within their limits.
-pub(crate) fn within(places: usize, arcs: &[Arc], heights: &[u32]) -> bool
-    requires { places ≤ length heights.now }
-    ensures yes { result ≡ true → Within places arcs.now heights.now }
-    ensures no { result ≡ false → Within places arcs.now heights.now → ⊥ }
+pub(crate) fn within(net: &Net, heights: &[u32]) -> bool
+    requires { net.now.places ≤ length heights.now }
+    ensures { IsTrue result ↔ Within net.now.places net.now.arcs.now heights.now }
 {
-    places <= 16_384 && arcs.len() <= 131_072 && low_heights(places, heights)
+    net.places <= 16_384
+        && net.arcs.len() <= 131_072
+        && heights[..net.places].iter().all(|h| *h <= 163_830_000)
 }
 
-// The lowest arc whose head stands too high above its tail.
-pub(crate) fn first_steep(places: usize, arcs: &[Arc], heights: &[u32]) -> Option<usize>
-    requires lawful { AllLawful places arcs.now }
-    requires room { places ≤ length heights.now }
-    ensures { SteepIs arcs.now heights.now result }
+// Whether the head of an arc stands too high above its tail.
+fn is_steep(heights: &[u32], arc: Arc) -> bool
+    requires tail { arc.tail < length heights.now }
+    requires head { arc.head < length heights.now }
+    ensures { IsTrue result ↔ (height_of heights.now arc.tail + arc.least < height_of heights.now arc.head) }
 {
-    for (j, arc) in arcs.iter().enumerate() {
-        let tail = heights[arc.tail as usize] as u64;
-        let head = heights[arc.head as usize] as u64;
-        if head > tail + arc.least as u64 {
-            return Some(j);
-        }
-    }
-    None
+    let tail = heights[arc.tail as usize] as u64;
+    let head = heights[arc.head as usize] as u64;
+    head > tail + arc.least as u64
 }
 
-// Copies the first heights.
-pub(crate) fn copy(places: usize, from: &[u32], to: &mut [u32])
-    requires from { places ≤ length from.now }
-    requires to { places ≤ length to.old }
-    ensures copied { (p : ℕ) → p < places → slice_index to.new p ≡ slice_index from.now p }
-    ensures beyond { SameFrom places to.old to.new }
+// The lowest such arc.
+pub(crate) fn first_steep(net: &Net, heights: &[u32]) -> Option<usize>
+    requires { net.now.places ≤ length heights.now }
+    ensures { SteepIs net.now.arcs.now heights.now result }
 {
-    for p in 0..places {
-        to[p] = from[p];
-    }
+    net.arcs.iter().position(|arc| is_steep(heights, *arc))
 }

@@ -3,83 +3,53 @@ ghost use Rattle.roads.specs.Heights.{roads_meaning};
 ghost use Rattle.roads.specs.RoadLaws.{roads_lawful};
 
 use crate::roads::Roads;
-use arcs::index::{count_at, kth};
 use ground::ground::Ground;
 
 impl<'a, 't> Ground for Roads<'a, 't> {
-    ghost meaning = { λ s. roads_meaning s.places s.arcs.now s.heights.now };
+    ghost meaning = { λ s. roads_meaning s.net.places s.net.arcs.now s.heights.now };
 
-    ghost lawful = { λ s. roads_lawful s.places s.arcs.now s.heights.now s.few_places s.few_arcs s.tails_in s.heads_in s.leasts_low s.leasts_high s.low_heights s.steps };
+    ghost lawful = { λ s. roads_lawful s.net.places s.net.arcs.now s.heights.now s.few_places s.few_arcs s.lawful s.low_heights s.steps };
 
     fn places(&self) -> u32 {
-        self.places
+        self.net.places as u32
     }
 
     fn arcs(&self) -> u32 {
-        self.arcs.len() as u32
+        self.net.arcs.len() as u32
     }
 
     fn tail(&self, arc: u32) -> Option<u32> {
-        let arc = arc as usize;
-        if arc < self.arcs.len() {
-            Some(self.arcs[arc].tail)
-        } else {
-            None
-        }
+        self.net.arcs.get(arc as usize).map(|a| a.tail)
     }
 
     fn head(&self, arc: u32) -> Option<u32> {
-        let arc = arc as usize;
-        if arc < self.arcs.len() {
-            Some(self.arcs[arc].head)
-        } else {
-            None
-        }
+        self.net.arcs.get(arc as usize).map(|a| a.head)
     }
 
     fn least(&self, arc: u32) -> Option<u32> {
-        let arc = arc as usize;
-        if arc < self.arcs.len() {
-            Some(self.arcs[arc].least)
-        } else {
-            None
-        }
+        self.net.arcs.get(arc as usize).map(|a| a.least)
     }
 
     fn estimate(&self, from: u32, to: u32) -> Option<u32> {
-        if from < self.places && to < self.places {
-            let base = self.heights[from as usize];
-            Some(self.heights[to as usize].saturating_sub(base))
-        } else {
-            None
-        }
+        let heights = &self.heights[..self.net.places];
+        let base = heights.get(from as usize)?;
+        let height = heights.get(to as usize)?;
+        Some(height.saturating_sub(*base))
     }
 
     fn leaving_count(&self, place: u32) -> u32 {
-        count_at(self.places as usize, self.leaving, place as usize)
+        self.leaving.count_at(place as usize)
     }
 
     fn entering_count(&self, place: u32) -> u32 {
-        count_at(self.places as usize, self.entering, place as usize)
+        self.entering.count_at(place as usize)
     }
 
     fn leaving(&self, place: u32, k: u32) -> Option<u32> {
-        kth(
-            self.places as usize,
-            self.leaving,
-            self.leavers,
-            place as usize,
-            k,
-        )
+        self.leaving.kth(place as usize, k)
     }
 
     fn entering(&self, place: u32, k: u32) -> Option<u32> {
-        kth(
-            self.places as usize,
-            self.entering,
-            self.enterers,
-            place as usize,
-            k,
-        )
+        self.entering.kth(place as usize, k)
     }
 }

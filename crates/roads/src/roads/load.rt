@@ -1,15 +1,13 @@
 // How roads come about, and how they are filled.
-ghost use Rattle.std.specs.Prelude.{◌≡◌, true, false, [], length, Ok, Err};
-ghost use Rattle.roads.specs.Loads.{Accepted, Declined, Filled, Fits as FitsIn, Judged};
+ghost use Rattle.std.specs.Prelude.{◌≡◌, ◌↔◌, [], IsTrue, IfOk, OnOk, OnErr};
+ghost use Rattle.roads.specs.Loads.{Accepted, Filled, Fits as FitsIn, Judged};
 ghost use Rattle.roads.specs.Tables.{tables_of, SameNames};
-ghost use Rattle.terms.specs.declared.refusal.Refusal.{Refusal};
 
-use crate::check::{copy, first_steep, within};
+use crate::check::{first_steep, within};
 use crate::roads::Roads;
 use arcs::end::End;
-use arcs::index::index;
-use arcs::lawful::first_unlawful;
-use std::mem;
+use arcs::index::Index;
+use arcs::net::Net;
 use terms::arc::Arc;
 use terms::refusal::Refusal;
 
@@ -22,101 +20,73 @@ impl<'a, 't> Roads<'a, 't> {
         entering: &'t mut [u32],
         enterers: &'t mut [u32],
     ) -> Roads<'a, 't>
-        ensures none { (result.places ≡ 0) × (result.arcs.now ≡ []) }
+        ensures none { (result.net.places ≡ 0) × (result.net.arcs.now ≡ []) }
         ensures heights { (result.heights.now ≡ heights.old) × (result.heights.ghost_name ≡ heights.entry.ghost_name) }
-        ensures leaving { (result.leaving.now ≡ leaving.old) × (result.leaving.ghost_name ≡ leaving.entry.ghost_name) }
-        ensures leavers { (result.leavers.now ≡ leavers.old) × (result.leavers.ghost_name ≡ leavers.entry.ghost_name) }
-        ensures entering { (result.entering.now ≡ entering.old) × (result.entering.ghost_name ≡ entering.entry.ghost_name) }
-        ensures enterers { (result.enterers.now ≡ enterers.old) × (result.enterers.ghost_name ≡ enterers.entry.ghost_name) }
+        ensures leaving { (result.leaving.ends.now ≡ leaving.old) × (result.leaving.ends.ghost_name ≡ leaving.entry.ghost_name) }
+        ensures leavers { (result.leaving.order.now ≡ leavers.old) × (result.leaving.order.ghost_name ≡ leavers.entry.ghost_name) }
+        ensures entering { (result.entering.ends.now ≡ entering.old) × (result.entering.ends.ghost_name ≡ entering.entry.ghost_name) }
+        ensures enterers { (result.entering.order.now ≡ enterers.old) × (result.entering.order.ghost_name ≡ enterers.entry.ghost_name) }
     {
         Roads {
-            places: 0,
-            arcs: &[],
+            net: Net::empty(),
             heights,
-            leaving,
-            leavers,
-            entering,
-            enterers,
+            leaving: Index::empty(leaving, leavers),
+            entering: Index::empty(entering, enterers),
         }
     }
 
     // Whether every table has an entry for each place or each arc.
     fn fits(&self, places: usize, arcs: &[Arc], heights: &[u32]) -> bool
-        ensures yes { result ≡ true → FitsIn places arcs.now heights.now (tables_of self.now) }
-        ensures no { result ≡ false → FitsIn places arcs.now heights.now (tables_of self.now) → ⊥ }
+        ensures { IsTrue result ↔ FitsIn places arcs.now heights.now (tables_of self.now) }
     {
         places <= heights.len()
             && places <= self.heights.len()
-            && places <= self.leaving.len()
-            && arcs.len() <= self.leavers.len()
-            && places <= self.entering.len()
-            && arcs.len() <= self.enterers.len()
+            && self.leaving.has_room(places, arcs.len())
+            && self.entering.has_room(places, arcs.len())
     }
 
-    // Tries the reasons to decline, the topmost first.
-    fn judge(&self, places: usize, arcs: &[Arc], heights: &[u32]) -> Result<(), Refusal>
-        ensures { Judged places arcs.now heights.now (tables_of self.now) result }
+    // Tries the reasons to decline, the topmost first, and answers the net of the arcs.
+    fn judge<'n>(&self, places: usize, arcs: &'n [Arc], heights: &[u32]) -> Result<Net<'n>, Refusal>
+        ensures judged { Judged places arcs.now heights.now (tables_of self.now) result }
+        ensures net { IfOk result (λ net. (net.places ≡ places) × (net.arcs.now ≡ arcs.now)) }
     {
         if !self.fits(places, arcs, heights) {
             return Err(Refusal::TableShort);
         }
-        if let Some(arc) = first_unlawful(places, arcs) {
-            return Err(Refusal::ArcUnlawful(arc));
-        }
-        if !within(places, arcs, heights) {
+        let net = Net::new(places, arcs)?;
+        if !within(&net, heights) {
             return Err(Refusal::Outside);
         }
-        if let Some(arc) = first_steep(places, arcs, heights) {
-            return Err(Refusal::HeightStep(arc));
+        match first_steep(&net, heights) {
+            None => Ok(net),
+            Some(arc) => Err(Refusal::HeightStep(arc)),
         }
-        Ok(())
     }
 
-    // Takes accepted tables.
-    fn fill(&mut self, places: u32, arcs: &'a [Arc], heights: &[u32])
-        requires { Accepted places arcs.now heights.now (tables_of self.old) }
-        ensures places { self.new.places ≡ places }
-        ensures arcs { self.new.arcs.now ≡ arcs.now }
+    // Takes an accepted net and its heights.
+    fn fill(&mut self, net: Net<'a>, heights: &[u32])
+        requires { Accepted net.places net.arcs.now heights.now (tables_of self.old) }
+        ensures net { (self.new.net.places ≡ net.entry.places) × (self.new.net.arcs.now ≡ net.entry.arcs.now) }
         ensures same { SameNames self.old self.new }
-        ensures tables { Filled places arcs.now heights.now (tables_of self.old) (tables_of self.new) }
+        ensures tables { Filled net.entry.places net.entry.arcs.now heights.now (tables_of self.old) (tables_of self.new) }
     {
-        let n = places as usize;
-        let empty = Roads::empty(&mut [], &mut [], &mut [], &mut [], &mut []);
-        let Roads {
-            places: _,
-            arcs: _,
-            heights: own,
-            leaving,
-            leavers,
-            entering,
-            enterers,
-        } = mem::replace(self, empty);
-        copy(n, heights, own);
-        index(End::Tail, n, arcs, leaving, leavers);
-        index(End::Head, n, arcs, entering, enterers);
-        *self = Roads {
-            places,
-            arcs,
-            heights: own,
-            leaving,
-            leavers,
-            entering,
-            enterers,
-        };
+        let n = net.places;
+        self.heights[..n].copy_from_slice(&heights[..n]);
+        self.leaving.fill(End::Tail, &net);
+        self.entering.fill(End::Head, &net);
+        self.net = net;
     }
 
     // Fills the roads with arcs between so many places, and with their heights, of which it keeps a copy. Where it
     // declines, the roads and their tables stay as they are.
     pub fn load(&mut self, places: u32, arcs: &'a [Arc], heights: &[u32]) -> Result<(), Refusal>
         ensures answer { Judged places arcs.now heights.now (tables_of self.old) result }
-        ensures filled { result ≡ Ok tt → (self.new.places ≡ places) × (self.new.arcs.now ≡ arcs.now) × Filled places arcs.now heights.now (tables_of self.old) (tables_of self.new) }
-        ensures kept { (e : Refusal) → result ≡ Err e → self.new ≡ self.old }
+        ensures filled { OnOk result ((self.new.net.places ≡ places) × (self.new.net.arcs.now ≡ arcs.now) × Filled places arcs.now heights.now (tables_of self.old) (tables_of self.new)) }
+        ensures kept { OnErr result (self.new ≡ self.old) }
         ensures same { SameNames self.old self.new }
     {
-        if let Err(refusal) = self.judge(places as usize, arcs, heights) {
-            return Err(refusal);
-        }
-        self.fill(places, arcs, heights);
+        let net = self.judge(places as usize, arcs, heights)?;
+        self.fill(net, heights);
         Ok(())
     }
 }

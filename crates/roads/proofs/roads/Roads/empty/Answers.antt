@@ -1,27 +1,9 @@
-use Rattle.std.proofs.Common.{[], length, ap, arith}
-use Rattle.arcs.proofs.Groups.{group_none}
-use Rattle.arcs.specs.Tables.{end_at}
+use Rattle.arcs.proofs.Listed.{empty_indexes}
 use Rattle.arcs.specs.declared.end.End.TheVariants.{Tail, Head}
 use Rattle.roads.proofs.roads.Roads.empty.Goals as goal
 
-pub invariant_of-result : goal.invariant_of-result
-invariant_of-result c =
-    record {
-      few_places = omega arith;
-      few_arcs = omega arith;
-      tails_in = λ j h. absurd (omega arith);
-      heads_in = λ j h. absurd (omega arith);
-      leasts_low = λ j h. absurd (omega arith);
-      leasts_high = λ j h. absurd (omega arith);
-      low_heights = λ p h. absurd (omega arith);
-      steps = λ j h. absurd (omega arith);
-      heights_fit = omega arith;
-      leaving_fits = omega arith;
-      leavers_fit = omega arith;
-      entering_fits = omega arith;
-      enterers_fit = omega arith;
-      leaving_right = λ p h. absurd (omega arith);
-      leavers_right = λ p k h. absurd (omega (arith, ap length (group_none (end_at Tail []) p)));
-      entering_right = λ p h. absurd (omega arith);
-      enterers_right = λ p k h. absurd (omega (arith, ap length (group_none (end_at Head []) p)));
-    }
+pub invariant_of-result-clause-leaving_right : goal.invariant_of-result-clause-leaving_right
+invariant_of-result-clause-leaving_right c = empty_indexes c.empty-2.result Tail c.empty.result c.empty-2.ensures.places c.empty.ensures.1
+
+pub invariant_of-result-clause-entering_right : goal.invariant_of-result-clause-entering_right
+invariant_of-result-clause-entering_right c = empty_indexes c.empty-3.result Head c.empty.result c.empty-3.ensures.places c.empty.ensures.1
