@@ -1,4 +1,5 @@
 pub mod Columns
+pub mod Lines
 pub mod Sheets
 pub mod Passes
 pub mod Typed
