@@ -1,6 +1,6 @@
 // The pass over a sheet that finds its first fault.
 ghost use Rattle.sheet.specs.Lines.{sheet_lines};
-ghost use Rattle.sheet.specs.Passes.{Checked};
+ghost use Rattle.sheet.specs.Checks.{Checked};
 
 use crate::columns::Columns;
 use crate::lines::SheetLines;

@@ -14,7 +14,9 @@ pub fn fill(columns: Columns, bytes: &[u8], table: &mut [Arc])
     ensures { (arcs : List Arc) → rows_of columns 2 (drop 1 (sheet_lines bytes.now)) ≡ Ok arcs → length arcs ≤ length table.old → table.new ≡ over arcs table.old }
 {
     let mut lines = SheetLines::new(bytes);
+    // the line of names
     lines.next();
+    // Not by `zip`, of which a proof does not see what is written to the table.
     for entry in table.iter_mut() {
         let Some(line) = lines.next() else {
             return;
