@@ -20,16 +20,13 @@ pub fn count(text: &[u8]) -> Option<usize>
 
 // The numbers that are typed, if there are as many as the list has places.
 pub fn read(text: &[u8], list: &mut [u32]) -> Option<()>
-    ensures { MatchOption result (option_and_then (exactly (length list.old)) (numbers_in (fields_of text.now)) ≡ None) (λ _. option_and_then (exactly (length list.old)) (numbers_in (fields_of text.now)) ≡ Some list.new) }
+    ensures { let typed = option_and_then (exactly (length list.old)) (numbers_in (fields_of text.now)) in MatchOption result (typed ≡ None) (λ _. typed ≡ Some list.new) }
 {
     let mut fields = Fields::new(text);
     for place in list.iter_mut() {
         *place = number(fields.next()?).ok()?;
     }
-    match fields.next() {
-        None => Some(()),
-        Some(_) => None,
-    }
+    fields.next().is_none().then_some(())
 }
 
 // Just N numbers.

@@ -24,6 +24,7 @@ fn typed(line: &[u8], list: &mut [u32]) -> Option<Call<usize>>
 
 // The call that a line says, which comes without its end. Typed arcs are written to the front of `list`, and the call says how many
 // they are; nothing else in the list changes.
+#[tactic(auto, using(crate::proofs::Law::line_within, crate::proofs::Law::line_back))]
 pub fn read_call(line: &[u8], list: &mut [u32]) -> Result<Call<usize>, Refusal>
     ensures answer { result ≡ answer_of (call_in (length list.old) line.now) }
     ensures list { list.new ≡ list_with (call_in (length list.old) line.now) list.old }

@@ -6,19 +6,16 @@ ghost use Rattle.report.specs.Reports.{arcs_text, counts_text, refusal_text, rep
 
 use sheet::places::places;
 use sheet::read::read;
-use std::alloc::Global;
-use std::fmt;
+use std::alloc::{AllocError, Global};
 use terms::arc::Arc;
 use terms::refusal::Refusal;
 
 // One line for each arc, under its number.
-fn list_arcs(out: &mut String, arcs: &[Arc]) -> fmt::Result
+fn list_arcs(out: &mut String, arcs: &[Arc]) -> Result<(), AllocError>
     ensures { OnOk result (string_bytes out.new ≡ string_bytes out.old ++ arcs_text 0 arcs.now) }
 {
     for (number, arc) in arcs.iter().enumerate() {
-        let tail = arc.tail;
-        let head = arc.head;
-        let least = arc.least;
+        let Arc { tail, head, least } = *arc;
         write!(
             out,
             "arc {number}: from {tail} to {head}, least cost {least}\n"
@@ -27,39 +24,34 @@ fn list_arcs(out: &mut String, arcs: &[Arc]) -> fmt::Result
     Ok(())
 }
 
-fn count(out: &mut String, arcs: &[Arc]) -> fmt::Result
+fn count(out: &mut String, arcs: &[Arc]) -> Result<(), AllocError>
     ensures { OnOk result (string_bytes out.new ≡ string_bytes out.old ++ counts_text arcs.now) }
 {
     let places = places(arcs);
     let arcs = arcs.len();
-    write!(out, "{places} places, {arcs} arcs\n")?;
-    Ok(())
+    write!(out, "{places} places, {arcs} arcs\n")
 }
 
-fn refuse(out: &mut String, refusal: Refusal) -> fmt::Result
+fn refuse(out: &mut String, refusal: Refusal) -> Result<(), AllocError>
     ensures { OnOk result (string_bytes out.new ≡ string_bytes out.old ++ refusal_text refusal) }
 {
     let number = refusal.number();
-    write!(out, "refused {number}: {refusal}\n")?;
-    Ok(())
+    write!(out, "refused {number}: {refusal}\n")
 }
 
-// The report on the sheet that `bytes` begin with, read by way of `table`. The error is want of memory.
-pub fn report(heap: Global, bytes: &[u8], table: &mut [Arc]) -> Result<String, fmt::Error>
+// The report on the sheet that `bytes` begin with, read by way of `table`.
+#[tactic(auto, unfolding(crate::specs::Reports::report_of))]
+pub fn report(alloc: Global, bytes: &[u8], table: &mut [Arc]) -> Result<String, AllocError>
     ensures { IfOk result (λ text. string_bytes text ≡ report_of bytes.now table.old) }
 {
-    let mut out = String::new(heap);
+    let mut out = String::new(alloc);
     match read(bytes, table) {
         Ok(sheet) => {
-            let named = sheet.arcs;
-            let arcs = &table[0..named];
+            let arcs = &table[..sheet.arcs];
             list_arcs(&mut out, arcs)?;
             count(&mut out, arcs)?;
-            Ok(out)
         }
-        Err(refusal) => {
-            refuse(&mut out, refusal)?;
-            Ok(out)
-        }
+        Err(refusal) => refuse(&mut out, refusal)?,
     }
+    Ok(out)
 }

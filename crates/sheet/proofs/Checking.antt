@@ -1,36 +1,50 @@
 -- The pass that checks a sheet, one line at a time. Assumes nothing.
-use Rattle.std.proofs.Common.{◌≡◌, ℕ, ◌+◌, List, [], ◌∷◌, length, drop, Some, Ok, Err, refl, ap, arith}
+use Rattle.std.proofs.Common.{◌≡◌, ℕ, ◌+◌, List, [], ◌∷◌, ◌++◌, length, None, Ok, Err, Result, refl, sym, ap, ◌∙◌, append_assoc, arith}
+use Rattle.std.specs.Result.{result_map_both}
 use Rattle.terms.specs.declared.arc.Arc.{Arc}
-use Rattle.terms.specs.declared.fault.LineFault.{LineFault}
 use Rattle.terms.specs.declared.fault.SheetFault.{SheetFault}
+use Rattle.sheet.proofs.Extents.{sheet_span, lines_few}
 use Rattle.sheet.specs.declared.columns.Columns.{Columns}
 use Rattle.sheet.specs.Columns.{columns_of}
-use Rattle.sheet.specs.Sheets.{row_of, rows_of, arcs_of, and_these}
-use Rattle.sheet.specs.Passes.{readable}
+use Rattle.sheet.specs.Sheets.{row_of, rows_of, and_these}
 
--- k lines are read, the first of them the line of names; what the lines left say is what the sheet says
-pub record Reading (lines : List (List ℕ)) (order : Columns) (k : ℕ) (left : List (List ℕ)) : Type 0 where
-  pub count : k + length left ≡ length lines
-  pub faulty : (f : SheetFault) → rows_of order (k + 1) left ≡ Err f → arcs_of lines ≡ Err f
-  pub right : rows_of order (k + 1) left ≡ Ok (readable order left) → arcs_of lines ≡ Ok (readable order (drop 1 lines))
+-- the line of names may not be missing
+pub no_names : columns_of [] ≡ None
+unfolding columns_of
+no_names = refl
 
-pub names_read : (lines : List (List ℕ)) (names : List ℕ) (left : List (List ℕ)) (order : Columns) → lines ≡ names ∷ left → columns_of names ≡ Some order → Reading lines order 1 left
-names_read lines names left order e named = record {
-  count = omega (arith, ap length e);
-  faulty = λ f h. rw e (rw named h);
-  right = λ h. rw e (rw named h);
-}
+-- arcs before others, unless one of those is faulty
+abbrev pub after : List Arc → Result (List Arc) SheetFault → Result (List Arc) SheetFault
+after done r = result_map_both (λ arcs. done ++ arcs) (λ fault. fault) r
 
-module _ {lines : List (List ℕ)} {order : Columns} {k : ℕ} {line : List ℕ} {left : List (List ℕ)} (so_far : Reading lines order k (line ∷ left)) where
-  pub line_right : (arc : Arc) → row_of order line ≡ Ok arc → Reading lines order (k + 1) left
+-- of these lines of values k are read, and the others say the rest
+pub record Reading (order : Columns) (rows : List (List ℕ)) (k : ℕ) (left : List (List ℕ)) : Type 0 where
+  pub count : k + length left ≡ length rows
+  pub done : List Arc
+  pub number : ℕ
+  pub numbered : number ≡ k + 2
+  pub so_far : rows_of order 2 rows ≡ after done (rows_of order number left)
+
+pub none_read : (order : Columns) (rows : List (List ℕ)) → Reading order rows 0 rows
+none_read order rows = record { count = omega arith; done = []; number = 2; numbered = omega arith; so_far = same (rows_of order 2 rows) }
+  where
+    same : (r : Result (List Arc) SheetFault) → r ≡ after [] r
+    same (Ok arcs) = refl
+    same (Err fault) = refl
+
+module _ {order : Columns} {rows : List (List ℕ)} {k : ℕ} {line : List ℕ} {left : List (List ℕ)} (so : Reading order rows k (line ∷ left)) where
+  pub line_right : (arc : Arc) → row_of order line ≡ Ok arc → Reading order rows (k + 1) left
   line_right arc h = record {
-    count = omega (arith, so_far.count);
-    faulty = λ f e. so_far.faulty f (rw h (ap (and_these arc) e));
-    right = λ e. so_far.right (rw h (ap (and_these arc) e));
+    count = omega (arith, so.count);
+    done = so.done ++ arc ∷ [];
+    number = so.number + 1;
+    numbered = omega (arith, so.numbered);
+    so_far = so.so_far ∙ rw h (more (rows_of order (so.number + 1) left));
   }
+    where
+      more : (r : Result (List Arc) SheetFault) → after so.done (and_these arc r) ≡ after (so.done ++ arc ∷ []) r
+      more (Ok arcs) = ap Ok (sym (append_assoc so.done (arc ∷ []) arcs))
+      more (Err fault) = refl
 
-  pub line_wrong : (fault : LineFault) → row_of order line ≡ Err fault → arcs_of lines ≡ Err (record { line = k + 1; fault = fault })
-  line_wrong fault h = so_far.faulty _ (rw h refl)
-
-pub all_read : {lines : List (List ℕ)} {order : Columns} {k : ℕ} → Reading lines order k [] → arcs_of lines ≡ Ok (readable order (drop 1 lines))
-all_read so_far = so_far.right refl
+-- what the beginning of `check` rests on
+pub ruleset beginning = (sheet_span, lines_few, no_names, none_read)

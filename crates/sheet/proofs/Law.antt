@@ -1,24 +1,23 @@
 -- Arcs written out as a sheet are read back. Assumes nothing.
-use Rattle.std.proofs.Common.{◌≡◌, ℕ, ◌+◌, ◌-◌, ◌<◌, ◌≤◌, Bool, true, false, cond, ltb, List, [], ◌∷◌, ◌++◌, map, length, take, IfOk, Some, Ok, Err, decimal, Result, sym, refl, ap, ◌∙◌, subst, append_assoc, arith, length-append, length-take}
+use Rattle.std.proofs.Common.{◌≡◌, ◌≢◌, ℕ, ◌+◌, ◌-◌, ◌<◌, ◌≤◌, List, [], ◌∷◌, ◌++◌, map, length, take, All, Some, Ok, decimal, refl, ap, ◌∙◌, append_assoc, arith, length-append, length-take}
 use lib.ListN.{length-map}
-use Rattle.std.specs.List.{flat_map, AllByRecursion}
+use Rattle.std.specs.List.{flat_map}
+use Rattle.std.proofs.lemmas.Bool.Decides.{nat_tests}
+use Rattle.std.proofs.lemmas.Fmt.{decimal_nonempty}
+use Rattle.std.proofs.lemmas.List.Elements.{All-cons, All-head, All-tail, All-append}
 use Rattle.terms.specs.Amounts.{far}
 use Rattle.terms.specs.declared.arc.Arc.{Arc}
-use Rattle.terms.specs.declared.fault.SheetFault.{SheetFault}
-use Rattle.terms.specs.declared.refusal.Refusal.{Refusal}
-use Rattle.terms.specs.declared.refusal.Refusal.TheVariants.{TableShort}
 use Rattle.text.specs.Pieces.{lines_of, fields_of}
-use Rattle.std.proofs.lemmas.Fmt.{decimal_nonempty}
-use Rattle.std.proofs.lemmas.Bool.{ltb-false}
-use Rattle.text.proofs.Back.{Without, without_append, without_from_lacks, piece_back, field_back, decimal_without, number_back}
+use Rattle.text.proofs.Back.{Without, field_back, last_field_back, line_back, decimal_without, without_by_test}
+use Rattle.text.proofs.Digits.{number_back}
 use Rattle.sheet.specs.declared.columns.Columns.{Columns}
 use Rattle.sheet.specs.declared.columns.Columns.TheVariants.{FromToLeast, FromLeastTo, ToFromLeast, ToLeastFrom, LeastFromTo, LeastToFrom}
-use Rattle.sheet.specs.declared.read.Sheet.{Sheet}
 use Rattle.sheet.specs.Columns.{name_line, columns_of, arc_of}
-use Rattle.sheet.specs.Sheets.{row_of, rows_of, arcs_of, arcs_under, in_line, and_these, arc_in, filled, span, sheet_lines, sheet_of, answered, table_after, end_of}
-use Rattle.sheet.specs.Typed.{line_of, typed_arc, typed_sheet, Typable, Stops, ReadsBack}
-use Rattle.sheet.proofs.Whole.{arcs_count, accepted}
-use Rattle.sheet.proofs.Fills.{room_for_all}
+use Rattle.sheet.specs.Lines.{filled, sheet_lines, span}
+use Rattle.sheet.specs.Sheets.{row_of, rows_of, arcs_of, arcs_under, in_line, and_these, arc_in, end_of}
+use Rattle.sheet.specs.Typed.{line_of, typed_arc, typed_sheet, Typable, Stops}
+use Rattle.sheet.proofs.Extents.{span_more, sheet_span}
+use Rattle.sheet.proofs.Whole.{arcs_count}
 
 -- the bytes of a line of three numbers, without byte 10
 three : ℕ → ℕ → ℕ → List ℕ
@@ -27,9 +26,9 @@ three x y z = decimal x ++ 32 ∷ (decimal y ++ 32 ∷ decimal z)
 three_fields : (x y z : ℕ) → x ≤ far → y ≤ far → z ≤ far → fields_of (three x y z) ≡ decimal x ∷ decimal y ∷ decimal z ∷ []
 unfolding three
 three_fields x y z hx hy hz =
-    piece_back 32 ([] ∷ []) (decimal x) _ (decimal_without 32 x (omega arith) hx)
-    ∙ ap (λ r. decimal x ∷ r) (piece_back 32 ([] ∷ []) (decimal y) _ (decimal_without 32 y (omega arith) hy))
-    ∙ ap (λ r. decimal x ∷ decimal y ∷ r) (field_back (decimal z) (decimal_without 32 z (omega arith) hz))
+    field_back (decimal x) _ (decimal_without 32 x (omega arith) hx)
+    ∙ ap (λ r. decimal x ∷ r) (field_back (decimal y) _ (decimal_without 32 y (omega arith) hy))
+    ∙ ap (λ r. decimal x ∷ decimal y ∷ r) (last_field_back (decimal z) (decimal_without 32 z (omega arith) hz))
 
 three_row : (order : Columns) (x y z : ℕ) → x ≤ far → y ≤ far → z ≤ far → row_of order (three x y z) ≡ Ok (arc_of order x y z)
 unfolding row_of
@@ -69,11 +68,14 @@ three_line : (x y z : ℕ) → line_of x y z ≡ three x y z ++ 10 ∷ []
 unfolding three
 three_line x y z = simp append_assoc
 
+-- two numbers with a space between them
+joined : (bs cs : List ℕ) → Without 10 bs → Without 10 cs → Without 10 (bs ++ 32 ∷ cs)
+joined bs cs v w = All-append (λ b. b ≢ 10) bs (32 ∷ cs) v (All-cons (λ b. b ≢ 10) 32 cs (λ e. omega arith) w)
+
 three_without : (x y z : ℕ) → x ≤ far → y ≤ far → z ≤ far → Without 10 (three x y z)
 unfolding three
 three_without x y z hx hy hz =
-    without_append 10 (decimal x) _ (decimal_without 10 x (omega arith) hx)
-    (λ e. omega arith, without_append 10 (decimal y) _ (decimal_without 10 y (omega arith) hy) (λ e. omega arith, decimal_without 10 z (omega arith) hz))
+    joined (decimal x) _ (decimal_without 10 x (omega arith) hx) (joined (decimal y) _ (decimal_without 10 y (omega arith) hy) (decimal_without 10 z (omega arith) hz))
 
 three_some : (x y z : ℕ) → x ≤ far → 0 < length (three x y z)
 unfolding three
@@ -97,85 +99,55 @@ stopped : (after : List ℕ) → Stops after → filled (lines_of after) ≡ []
 stopped [] s = refl
 stopped (b ∷ after) s = rw s refl
 
-rows_lines : (order : Columns) (arcs : List Arc) (after : List ℕ) → Stops after → AllByRecursion Typable arcs → filled (lines_of (flat_map (typed_arc order) arcs ++ after)) ≡ map (bare order) arcs
+rows_lines : (order : Columns) (arcs : List Arc) (after : List ℕ) → Stops after → All Typable arcs → filled (lines_of (flat_map (typed_arc order) arcs ++ after)) ≡ map (bare order) arcs
 rows_lines order [] after s t = stopped after s
 rows_lines order (a ∷ arcs) after s t =
-    let line = bare_line order a t.0 in
+    let line = bare_line order a (All-head Typable a arcs t) in
     let text : (typed_arc order a ++ flat_map (typed_arc order) arcs) ++ after ≡ bare order a ++ 10 ∷ (flat_map (typed_arc order) arcs ++ after) = rw line.is (simp append_assoc) in
     ap (λ bs. filled (lines_of bs)) text
-    ∙ ap filled (piece_back 10 [] (bare order a) _ line.solid)
+    ∙ ap filled (line_back (bare order a) _ line.solid)
     ∙ filled_more _ _ line.some
-    ∙ ap (λ r. bare order a ∷ r) (rows_lines order arcs after s t.1)
+    ∙ ap (λ r. bare order a ∷ r) (rows_lines order arcs after s (All-tail Typable a arcs t))
 
-rows_back : (order : Columns) (k : ℕ) (arcs : List Arc) → AllByRecursion Typable arcs → rows_of order k (map (bare order) arcs) ≡ Ok arcs
+rows_back : (order : Columns) (k : ℕ) (arcs : List Arc) → All Typable arcs → rows_of order k (map (bare order) arcs) ≡ Ok arcs
 rows_back order k [] t = refl
 rows_back order k (a ∷ arcs) t =
-    ap (λ r. in_line k r (λ arc. and_these arc (rows_of order (k + 1) (map (bare order) arcs)))) (bare_line order a t.0).reads
-    ∙ ap (and_these a) (rows_back order (k + 1) arcs t.1)
+    ap (λ r. in_line k r (λ arc. and_these arc (rows_of order (k + 1) (map (bare order) arcs)))) (bare_line order a (All-head Typable a arcs t)).reads
+    ∙ ap (and_these a) (rows_back order (k + 1) arcs (All-tail Typable a arcs t))
 
-rows_span : (order : Columns) (arcs : List Arc) → AllByRecursion Typable arcs → span (map (bare order) arcs) ≡ length (flat_map (typed_arc order) arcs)
+rows_span : (order : Columns) (arcs : List Arc) → All Typable arcs → span (map (bare order) arcs) ≡ length (flat_map (typed_arc order) arcs)
 rows_span order [] t = refl
 rows_span order (a ∷ arcs) t =
-    omega (arith, rows_span order arcs t.1, length-append (typed_arc order a) (flat_map (typed_arc order) arcs), ap length (bare_line order a t.0).is, length-append (bare order a) (10 ∷ []))
+    omega (arith, rows_span order arcs (All-tail Typable a arcs t), span_more, length-append (typed_arc order a) (flat_map (typed_arc order) arcs), ap length (bare_line order a (All-head Typable a arcs t)).is, length-append (bare order a) (10 ∷ []))
 
 names_solid : (order : Columns) → Without 10 (name_line order) × (0 < length (name_line order))
-names_solid FromToLeast = (without_from_lacks 10 (name_line FromToLeast) refl, omega arith)
-names_solid FromLeastTo = (without_from_lacks 10 (name_line FromLeastTo) refl, omega arith)
-names_solid ToFromLeast = (without_from_lacks 10 (name_line ToFromLeast) refl, omega arith)
-names_solid ToLeastFrom = (without_from_lacks 10 (name_line ToLeastFrom) refl, omega arith)
-names_solid LeastFromTo = (without_from_lacks 10 (name_line LeastFromTo) refl, omega arith)
-names_solid LeastToFrom = (without_from_lacks 10 (name_line LeastToFrom) refl, omega arith)
+names_solid FromToLeast = (without_by_test 10 (name_line FromToLeast) refl, omega arith)
+names_solid FromLeastTo = (without_by_test 10 (name_line FromLeastTo) refl, omega arith)
+names_solid ToFromLeast = (without_by_test 10 (name_line ToFromLeast) refl, omega arith)
+names_solid ToLeastFrom = (without_by_test 10 (name_line ToLeastFrom) refl, omega arith)
+names_solid LeastFromTo = (without_by_test 10 (name_line LeastFromTo) refl, omega arith)
+names_solid LeastToFrom = (without_by_test 10 (name_line LeastToFrom) refl, omega arith)
 
-module _ (order : Columns) (arcs : List Arc) (after : List ℕ) (s : Stops after) (t : AllByRecursion Typable arcs) where
+module _ (order : Columns) (arcs : List Arc) (after : List ℕ) (s : Stops after) (t : All Typable arcs) where
   typed_lines : sheet_lines (typed_sheet order arcs ++ after) ≡ name_line order ∷ map (bare order) arcs
   typed_lines =
       let solid = names_solid order in
       ap (λ bs. filled (lines_of bs)) (append_assoc (name_line order) (10 ∷ flat_map (typed_arc order) arcs) after)
-      ∙ ap filled (piece_back 10 [] (name_line order) _ solid.0)
+      ∙ ap filled (line_back (name_line order) _ solid.0)
       ∙ filled_more _ _ solid.1
       ∙ ap (λ r. name_line order ∷ r) (rows_lines order arcs after s t)
 
-  typed_arcs : arcs_of (sheet_lines (typed_sheet order arcs ++ after)) ≡ Ok arcs
+  pub typed_arcs : arcs_of (sheet_lines (typed_sheet order arcs ++ after)) ≡ Ok arcs
   typed_arcs = ap arcs_of typed_lines ∙ ap (λ o. arcs_under o (map (bare order) arcs)) (names_back order) ∙ rows_back order 2 arcs t
 
-  typed_end : end_of (typed_sheet order arcs ++ after) ≡ length (typed_sheet order arcs ++ take 1 after)
+  pub typed_end : end_of (typed_sheet order arcs ++ after) ≡ length (typed_sheet order arcs ++ take 1 after)
   typed_end =
       let sheet = typed_sheet order arcs in
-      let long : span (sheet_lines (sheet ++ after)) ≡ length sheet = ap span typed_lines ∙ omega (arith, rows_span order arcs t, length-append (name_line order) (10 ∷ flat_map (typed_arc order) arcs)) in
+      let long : span (sheet_lines (sheet ++ after)) ≡ length sheet = ap span typed_lines ∙ omega (arith, rows_span order arcs t, span_more, length-append (name_line order) (10 ∷ flat_map (typed_arc order) arcs)) in
       omega (arith, length-append sheet after, length-append sheet (take 1 after), length-take 1 after)
 
-  typed_count : length (sheet_lines (typed_sheet order arcs ++ after)) - 1 ≡ length arcs
+  pub typed_count : length (sheet_lines (typed_sheet order arcs ++ after)) - 1 ≡ length arcs
   typed_count = omega (arith, ap length typed_lines, length-map arcs (bare order))
 
-pub read_back : (bytes : List ℕ) (was : List Arc) → ReadsBack bytes was (sheet_of bytes (length was)) (table_after bytes was)
-read_back bytes was order arcs after e s t room =
-    let text = typed_sheet order arcs ++ after in
-    let typed = accepted text was (omega (arith, typed_count order arcs after s t)) arcs (typed_arcs order arcs after s t) in (
-      ap (λ bs. sheet_of bs (length was)) e ∙ typed.0 ∙ rw (typed_count order arcs after s t, typed_end order arcs after s t) refl,
-      ap (λ bs. table_after bs was) e ∙ typed.1 ∙ room_for_all arcs was room,
-    )
-
--- what is read fits the table and the text
-fits : (bytes : List ℕ) (was : List Arc) → IfOk (sheet_of bytes (length was)) (λ sheet. (sheet.arcs ≤ length was) × (sheet.end ≤ length bytes))
-unfolding sheet_of
-fits bytes was = short (ltb (length was) (length (sheet_lines bytes) - 1)) refl
-  where
-    P : Sheet → Type 0
-    P sheet = (sheet.arcs ≤ length was) × (sheet.end ≤ length bytes)
-
-    read : (r : Result (List Arc) SheetFault) → arcs_of (sheet_lines bytes) ≡ r → length (sheet_lines bytes) - 1 ≤ length was → IfOk (answered bytes r) P
-    read (Ok arcs) e room = (omega (arith, arcs_count (sheet_lines bytes) arcs e), omega arith)
-    read (Err fault) e room = tt
-
-    short : (b : Bool) → ltb (length was) (length (sheet_lines bytes) - 1) ≡ b → IfOk (cond b (Err TableShort) (answered bytes (arcs_of (sheet_lines bytes)))) P
-    short true e = tt
-    short false e = read (arcs_of (sheet_lines bytes)) refl (ltb-false _ _ e)
-
--- what `read` promises, from its answer and its table
-pub promised : (bytes : List ℕ) (was left : List Arc) (r : Result Sheet Refusal) → r ≡ sheet_of bytes (length was) → left ≡ table_after bytes was → record { answer : r ≡ sheet_of bytes (length was); arcs : left ≡ table_after bytes was; within : IfOk r (λ sheet. (sheet.arcs ≤ length was) × (sheet.end ≤ length bytes)); back : ReadsBack bytes was r left }
-promised bytes was left r a b = record {
-  answer = a;
-  arcs = b;
-  within = subst (λ q. IfOk q (λ sheet. (sheet.arcs ≤ length was) × (sheet.end ≤ length bytes))) (sym a) (fits bytes was);
-  back = λ order arcs after e s t room. let known = read_back bytes was order arcs after e s t room in (a ∙ known.0, b ∙ known.1);
-}
+-- what `read` rests on
+pub ruleset reading = (nat_tests, arcs_count, sheet_span, typed_arcs, typed_count, typed_end)

@@ -1,6 +1,5 @@
-pub mod Names
-pub mod Extents
 pub mod Checking
-pub mod Fills
+pub mod Extents
+pub mod Filling
 pub mod Whole
 pub mod Law

@@ -1,5 +1,5 @@
 -- The six orders of a sheet's columns. Assumes nothing.
-use Rattle.std.specs.Prelude.{ℕ, cond, List, [], ◌∷◌, Some, None, codes, Option}
+use Rattle.std.specs.Prelude.{ℕ, List, [], ◌∷◌, codes, find, Option}
 use Rattle.std.specs.Str.{bytes_eq}
 use Rattle.terms.specs.declared.arc.Arc.{Arc}
 use Rattle.sheet.specs.declared.columns.Columns.{Columns}
@@ -17,14 +17,9 @@ name_line LeastToFrom = codes "least to from"
 abbrev pub orders : List Columns
 orders = FromToLeast ∷ FromLeastTo ∷ ToFromLeast ∷ ToLeastFrom ∷ LeastFromTo ∷ LeastToFrom ∷ []
 
--- the order among these whose line of names is the line
-abbrev pub among : List Columns → List ℕ → Option Columns
-among [] line = None
-among (o ∷ os) line = cond (bytes_eq line (name_line o)) (Some o) (among os line)
-
 -- the order that a line of names says, if it is one
 unfoldable pub columns_of : List ℕ → Option Columns
-columns_of = among orders
+columns_of line = find (λ order. bytes_eq line (name_line order)) orders
 
 -- the arc of a line whose values, in the order typed, are x, y and z
 abbrev pub arc_of : Columns → ℕ → ℕ → ℕ → Arc

@@ -1,5 +1,6 @@
 pub mod Columns
+pub mod Lines
 pub mod Sheets
-pub mod Passes
+pub mod Checks
 pub mod Typed
 pub mod Places

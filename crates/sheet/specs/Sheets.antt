@@ -8,16 +8,11 @@ use Rattle.terms.specs.declared.fault.SheetFault.{SheetFault}
 use Rattle.terms.specs.declared.refusal.Refusal.{Refusal}
 use Rattle.terms.specs.declared.refusal.Refusal.TheVariants.{TableShort, Sheet as Faulty}
 use Rattle.text.specs.Numbers.{number_of}
-use Rattle.text.specs.Pieces.{lines_of, fields_of}
+use Rattle.text.specs.Pieces.{fields_of}
 use Rattle.sheet.specs.declared.columns.Columns.{Columns}
 use Rattle.sheet.specs.declared.read.Sheet.{Sheet}
 use Rattle.sheet.specs.Columns.{columns_of, arc_of}
-
--- the lines of a sheet: those before the first empty one
-abbrev pub filled : List (List ℕ) → List (List ℕ)
-filled [] = []
-filled ([] ∷ lines) = []
-filled ((b ∷ bs) ∷ lines) = (b ∷ bs) ∷ filled lines
+use Rattle.sheet.specs.Lines.{sheet_lines, span}
 
 -- go on with the number of a line's k-th field, or stop at its fault
 abbrev pub in_field : {X : Type 0} → ℕ → Result ℕ NumberFault → (ℕ → Result X LineFault) → Result X LineFault
@@ -61,15 +56,6 @@ arcs_under (Some order) lines = rows_of order 2 lines
 abbrev pub arcs_of : List (List ℕ) → Result (List Arc) SheetFault
 arcs_of [] = Err (record { line = 1; fault = Names })
 arcs_of (names ∷ lines) = arcs_under (columns_of names) lines
-
--- how many bytes lines take up, each with the byte 10 after it
-abbrev pub span : List (List ℕ) → ℕ
-span [] = 0
-span (line ∷ lines) = length line + 1 + span lines
-
--- the lines of the sheet that a text begins with
-abbrev pub sheet_lines : List ℕ → List (List ℕ)
-sheet_lines bytes = filled (lines_of bytes)
 
 -- where the text after the sheet begins: past the sheet's lines and the empty line that ends it, as far as there are bytes
 abbrev pub end_of : List ℕ → ℕ

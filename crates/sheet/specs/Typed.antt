@@ -1,6 +1,6 @@
 -- Arcs written out as a sheet, and the law that they read back. Assumes nothing.
-use Rattle.std.specs.Prelude.{◌≡◌, ℕ, ◌≤◌, List, [], ◌∷◌, ◌++◌, length, take, Ok, decimal, Result}
-use Rattle.std.specs.List.{flat_map, AllByRecursion}
+use Rattle.std.specs.Prelude.{◌≡◌, ℕ, ◌≤◌, List, [], ◌∷◌, ◌++◌, length, take, All, Ok, decimal, Result}
+use Rattle.std.specs.List.{flat_map}
 use Rattle.terms.specs.Amounts.{far}
 use Rattle.terms.specs.declared.arc.Arc.{Arc}
 use Rattle.terms.specs.declared.refusal.Refusal.{Refusal}
@@ -40,5 +40,5 @@ Stops (b ∷ bytes) = b ≡ 10
 -- and the sheet ends behind the empty line, if one comes
 abbrev pub ReadsBack : List ℕ → List Arc → Result Sheet Refusal → List Arc → Type 0
 ReadsBack bytes was answer now =
-    (order : Columns) (arcs : List Arc) (after : List ℕ) → bytes ≡ typed_sheet order arcs ++ after → Stops after → AllByRecursion Typable arcs → length arcs ≤ length was →
+    (order : Columns) (arcs : List Arc) (after : List ℕ) → bytes ≡ typed_sheet order arcs ++ after → Stops after → All Typable arcs → length arcs ≤ length was →
     (answer ≡ Ok (record { arcs = length arcs; end = length (typed_sheet order arcs ++ take 1 after) })) × (now ≡ over arcs was)

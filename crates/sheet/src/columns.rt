@@ -1,9 +1,11 @@
 // The order of a sheet's three columns.
 ghost use Rattle.std.specs.Prelude.{◌≡◌};
-ghost use Rattle.std.specs.Str.{bytes_eq};
+ghost use Rattle.std.specs.Option.{ok_or};
 ghost use Rattle.sheet.specs.Columns.{name_line, columns_of, arc_of};
+ghost use Rattle.terms.specs.declared.fault.LineFault.TheVariants.{Names};
 
 use terms::arc::Arc;
+use terms::fault::LineFault;
 
 #[derive(Clone, Copy, Debug, PartialEq, Eq)]
 pub enum Columns {
@@ -30,26 +32,6 @@ impl Columns {
         }
     }
 
-    // The order that a line of names says, if it is one.
-    pub fn named_by(line: &[u8]) -> Option<Columns>
-        ensures { result ≡ columns_of line.now }
-    {
-        const ALL: [Columns; 6] = [
-            Columns::FromToLeast,
-            Columns::FromLeastTo,
-            Columns::ToFromLeast,
-            Columns::ToLeastFrom,
-            Columns::LeastFromTo,
-            Columns::LeastToFrom,
-        ];
-        for columns in ALL {
-            if line == columns.names() {
-                return Some(columns);
-            }
-        }
-        None
-    }
-
     // The arc of a line whose values, in the order typed, are these.
     pub fn arc(self, first: u32, second: u32, third: u32) -> Arc
         ensures { result ≡ arc_of self first second third }
@@ -63,5 +45,28 @@ impl Columns {
             Columns::LeastToFrom => (third, second, first),
         };
         Arc { tail, head, least }
+    }
+}
+
+// The order that a line of names says, if it is one.
+impl TryFrom<&[u8]> for Columns {
+    type Error = LineFault;
+
+    ghost try_from_gives = { λ line r. r ≡ ok_or (columns_of line.now) Names };
+
+    #[tactic(auto, unfolding(crate::specs::Columns::columns_of))]
+    fn try_from(line: &[u8]) -> Result<Columns, LineFault> {
+        const ALL: [Columns; 6] = [
+            Columns::FromToLeast,
+            Columns::FromLeastTo,
+            Columns::ToFromLeast,
+            Columns::ToLeastFrom,
+            Columns::LeastFromTo,
+            Columns::LeastToFrom,
+        ];
+        ALL.iter()
+            .copied()
+            .find(|columns| line == columns.names())
+            .ok_or(LineFault::Names)
     }
 }

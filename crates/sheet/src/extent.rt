@@ -1,6 +1,6 @@
 // How far a sheet reaches.
 ghost use Rattle.std.specs.Prelude.{◌≡◌, length};
-ghost use Rattle.sheet.specs.Sheets.{sheet_lines, span};
+ghost use Rattle.sheet.specs.Lines.{sheet_lines, span};
 
 use crate::lines::SheetLines;
 
@@ -9,11 +9,7 @@ pub fn extent(bytes: &[u8]) -> (usize, usize)
     ensures lines { result.0 ≡ length (sheet_lines bytes.now) }
     ensures bytes { result.1 ≡ span (sheet_lines bytes.now) }
 {
-    let mut lines = 0;
-    let mut taken = 0;
-    for line in SheetLines::new(bytes) {
-        lines += 1;
-        taken += line.len() + 1;
-    }
+    let lines = SheetLines::new(bytes).count();
+    let taken = SheetLines::new(bytes).map(|line| line.len() + 1).sum();
     (lines, taken)
 }

@@ -1,9 +1,9 @@
 // The lines of a sheet: those before the first empty one.
-ghost use Rattle.std.specs.Prelude.{◌≡◌, [], ◌∷◌, length, MatchOption};
-ghost use Rattle.text.specs.Pieces.{lines_of};
-ghost use Rattle.sheet.specs.Sheets.{filled};
-ghost use Rattle.std.specs.Iterator.{at_most};
+ghost use Rattle.std.specs.Prelude.{◌≡◌};
+ghost use Rattle.std.specs.Iterator.{YieldsFirstRef, item_count};
+ghost use Rattle.sheet.specs.Lines.{sheet_lines};
 
+use std::marker::Model;
 use text::lines::Lines;
 
 #[derive(Drop)]
@@ -11,9 +11,19 @@ pub struct SheetLines<'a> {
     lines: Lines<'a>,
 }
 
+// The lines that are still to come.
+impl<'a> Model for SheetLines<'a> {
+    ghost use Rattle.std.specs.Prelude.{ℕ, List};
+    ghost use Rattle.sheet.specs.Lines.{filled};
+
+    ghost Value = { List (List ℕ) };
+
+    ghost view = { λ s. filled s.lines };
+}
+
 impl<'a> SheetLines<'a> {
     pub fn new(bytes: &'a [u8]) -> SheetLines<'a>
-        ensures { result.lines.rest.now ≡ bytes.now }
+        ensures { result ≡ sheet_lines bytes.now }
     {
         SheetLines {
             lines: Lines::new(bytes),
@@ -24,12 +34,17 @@ impl<'a> SheetLines<'a> {
 impl<'a> Iterator for SheetLines<'a> {
     type Item = &'a [u8];
 
-    ghost next_gives = { λ s r t. MatchOption r (filled (lines_of s.lines.rest.now) ≡ []) (λ line. filled (lines_of s.lines.rest.now) ≡ line.now ∷ filled (lines_of t.lines.rest.now)) };
+    ghost next_gives = { YieldsFirstRef (λ lines. lines) };
 
-    ghost remaining = { λ s. at_most (length s.lines.rest.now) };
+    ghost remaining = { item_count (λ lines. lines) };
 
     fn next(&mut self) -> Option<&'a [u8]> {
         let line = self.lines.next()?;
-        if line.is_empty() { None } else { Some(line) }
+        if line.is_empty() {
+            // nothing behind it is of this sheet
+            self.lines = Lines::new(b"");
+            return None;
+        }
+        Some(line)
     }
 }

@@ -8,11 +8,9 @@ use terms::arc::Arc;
 pub fn places(arcs: &[Arc]) -> u64
     ensures { result ≡ places_of arcs.now }
 {
-    let mut places = 0;
-    for arc in arcs {
-        places = places
+    arcs.iter().fold(0, |places, arc| {
+        places
             .max(u64::from(arc.tail) + 1)
-            .max(u64::from(arc.head) + 1);
-    }
-    places
+            .max(u64::from(arc.head) + 1)
+    })
 }

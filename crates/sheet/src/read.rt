@@ -17,6 +17,7 @@ pub struct Sheet {
 }
 
 // Reads the sheet that `bytes` begin with into the front of `table`, or declines and leaves the whole table.
+#[tactic(auto, using(crate::proofs::Law::reading), unfolding(crate::specs::Sheets::sheet_of, crate::specs::Sheets::table_after))]
 pub fn read(bytes: &[u8], table: &mut [Arc]) -> Result<Sheet, Refusal>
     ensures answer { result ≡ sheet_of bytes.now (length table.old) }
     ensures arcs { table.new ≡ table_after bytes.now table.old }
