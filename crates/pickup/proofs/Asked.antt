@@ -1,17 +1,12 @@
 -- What the ground below answers is small.
-use Rattle.std.proofs.Common.{◌≡◌, ℕ, ◌-◌, ◌*◌, ◌<◌, ◌≤◌, Bool, true, false, cond, ltb, Some, None, refl, arith}
-use Rattle.std.proofs.lemmas.Bool.{ltb-true, ltb-false}
+use Rattle.std.proofs.Common.{◌≡◌, ℕ, ◌<◌, ltb, Some, arith}
+use Rattle.std.proofs.lemmas.Bool.{ltb-true}
 use Rattle.ground.proofs.EndLaws.{end_in}
 use Rattle.ground.specs.Ends.{end_of}
 use Rattle.ground.specs.KnownLaws.{known_some}
 use Rattle.ground.specs.Meanings.{Meaning, Lawful}
 use Rattle.ground.specs.Questions.{known}
 use Rattle.ground.specs.declared.end.End.{End}
-use Rattle.pickup.specs.LayerLaws.{Kind, part_of_lem}
-use Rattle.pickup.specs.LayerLaws.Kind.{before, after, pickup}
-use Rattle.pickup.specs.Layers.{layered}
-use Rattle.pickup.specs.Parts.{part_of}
-use Rattle.pickup.specs.declared.parts.Part.TheVariants.{Before, After, Crossing}
 
 -- an end of an arc below is a place, and places are few
 pub end_few : (e : End) (b : Meaning) → Lawful b → (j x : ℕ) → known (ltb j b.arcs) (end_of e b j) ≡ Some x → x < 16384

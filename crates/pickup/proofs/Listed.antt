@@ -6,7 +6,7 @@ use Rattle.std.proofs.lemmas.Bool.{cases_lt, cases_eq, lt-ltb, le-ltb, eq-eqb, n
 use Rattle.std.specs.List.{slice_get}
 use Rattle.ground.proofs.ArcsAt.{arcs_at-append, arcs_at-same, arcs_at-none, arcs_at-beyond}
 use Rattle.ground.proofs.EndLaws.{end_in}
-use Rattle.ground.specs.KnownLaws.{one_answer, not_both, known_there, known_absent}
+use Rattle.ground.specs.KnownLaws.{known_there, known_absent}
 use Rattle.ground.specs.Meanings.{Meaning, Lawful}
 use Rattle.ground.specs.Ends.{end_of, arcs_by}
 use Rattle.ground.specs.Questions.{known, arcs_at}
@@ -31,8 +31,8 @@ byte_is true = (refl, omega arith)
 byte_is false = (refl, omega arith)
 
 pub nth_copy : (f : ℕ → ℕ) (xs : List ℕ) (here : Bool) (j k x : ℕ) → slice_get xs k ≡ Some x → slice_get (map f xs ++ extra here j) k ≡ Some (f x)
-nth_copy f [] here j k x e = let z : ◌≡◌ {A = ℕ} 0 1 = cc in absurd (omega arith)
-nth_copy f (y ∷ xs) here j zero x e = ap Some (ap f (one_answer (Some y) y x refl e))
+nth_copy f [] here j k x e = cc
+nth_copy f (y ∷ xs) here j zero x e = cc
 nth_copy f (y ∷ xs) here j (suc k) x e = nth_copy f xs here j k x e
 
 pub nth_last : (f : ℕ → ℕ) (xs : List ℕ) (j k : ℕ) → k ≡ length xs → slice_get (map f xs ++ extra true j) k ≡ Some j
@@ -43,7 +43,7 @@ pub nth_past_last : (f : ℕ → ℕ) (xs : List ℕ) (here : Bool) (j k : ℕ) 
 nth_past_last f [] true j zero e h = absurd (h refl refl)
 nth_past_last f [] true j (suc k) e h = refl
 nth_past_last f [] false j k e h = refl
-nth_past_last f (y ∷ xs) here j zero e h = absurd (not_both (Some y) y refl e)
+nth_past_last f (y ∷ xs) here j zero e h = cc
 nth_past_last f (y ∷ xs) here j (suc k) e h = nth_past_last f xs here j k e (λ t i. h t (ap suc i))
 
 pub nth_extra : (f : ℕ → ℕ) (xs : List ℕ) (here : Bool) (j k : ℕ) → slice_get xs k ≡ None → slice_get (map f xs ++ extra here j) k ≡ known (here && eqb k (length xs)) j
