@@ -6,7 +6,6 @@ use Rattle.std.specs.List.{cons_option, slice_index_or}
 use Rattle.std.specs.Option.{option_len}
 use Rattle.ground.proofs.ArcsAt.{arcs_at-beyond}
 use Rattle.ground.proofs.Offered.{Offers, arcs_at-offered}
-use Rattle.ground.specs.KnownLaws.{not_both, one_answer}
 use Rattle.ground.specs.Questions.{arcs_at, arcs_from, arcs_into}
 use Rattle.grid.proofs.Leaving.{leaving_count}
 use Rattle.grid.specs.Compass.{number, step_of, neighbour}
@@ -102,13 +101,13 @@ module _ (rows columns p : ℕ) (some : 1 ≤ columns) (here : p < rows * column
   by_entry P (Back d) x near self = at (neighbour rows columns p (number d)) refl
     where
       at : (v : Option ℕ) → neighbour rows columns p (number d) ≡ v → arc_of p (Back d) v ≡ Some x → P (Back d)
-      at (Some s) v g = near d s v (one_answer (Some x) x (8 * s + (number d + 4) % 8) refl (sym g))
-      at None v g = absurd (not_both None x g refl)
+      at (Some s) v g = near d s v cc
+      at None v g = cc
   by_entry P (Own d) x near self = at (neighbour rows columns p (number d)) refl
     where
       at : (v : Option ℕ) → neighbour rows columns p (number d) ≡ v → arc_of p (Own d) v ≡ Some x → P (Own d)
-      at (Some s) v g = absurd (not_both None x g refl)
-      at None v g = self d v (one_answer (Some x) x (8 * p + number d) refl (sym g))
+      at (Some s) v g = cc
+      at None v g = self d v cc
 
   source : (e : Entry) (x : ℕ) → entering rows columns p e ≡ Some x → Source e x
   source e x = by_entry (λ e. Source e x) e x near self

@@ -5,7 +5,7 @@ use Rattle.std.proofs.Math.Path.{refl, ap}
 use Rattle.std.specs.Option.{unwrap_or}
 use Rattle.std.proofs.lemmas.Nat.{div_below, mod_below, div-mul-add, mod-mul-add, mul-add-lt}
 use Rattle.std.proofs.lemmas.Bool.{ltb-true, lt-ltb}
-use Rattle.ground.specs.KnownLaws.{not_both, one_answer, known_some, known_there}
+use Rattle.ground.specs.KnownLaws.{known_some, known_there}
 use Rattle.ground.specs.Meanings.{Lawful}
 use Rattle.grid.specs.Compass.{less, same, more, step_of, moved, place_at, beside, neighbour}
 use Rattle.grid.specs.Grids.{gridded, estimated, apart}
@@ -73,12 +73,12 @@ module _ (rows columns : ℕ) (some : 1 ≤ columns) where
   neighbour_is p d s h e = at (moved rows (p / columns) (step_of d).rows) (moved columns (p % columns) (step_of d).columns) refl refl e
     where
       at : (r c : Option ℕ) → moved rows (p / columns) (step_of d).rows ≡ r → moved columns (p % columns) (step_of d).columns ≡ c → place_at columns r c ≡ Some s → Beside rows columns p d s
-      at None c e f g = absurd (not_both None s g refl)
-      at (Some r) None e f g = absurd (not_both None s g refl)
+      at None c e f g = cc
+      at (Some r) None e f g = cc
       at (Some r) (Some c) e f g =
           let v = moved_is rows (p / columns) (step_of d).rows r (row_of p h) e in
           let w = moved_is columns (p % columns) (step_of d).columns c (column_of p) f in
-          record { row = r; column = c; row_in = v.0; column_in = w.0; place = one_answer (Some s) s (r * columns + c) refl (sym g); row_moved = v.1; column_moved = w.1 }
+          record { row = r; column = c; row_in = v.0; column_in = w.0; place = cc; row_moved = v.1; column_moved = w.1 }
 
   pub neighbour_to : (p d s : ℕ) → Beside rows columns p d s → neighbour rows columns p d ≡ Some s
   unfolding beside

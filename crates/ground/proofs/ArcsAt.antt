@@ -1,10 +1,11 @@
 -- Laws of the arcs at a place, for either end.
-use Rattle.std.proofs.Common.{◌≡◌, ℕ, zero, suc, ◌+◌, ◌<◌, ◌≤◌, Bool, true, false, cond, eqb, List, [], ◌∷◌, ◌++◌, map, length, Some, None, filter, sym, refl, ap, ◌∙◌, inl, inr, add-zero, zero-add, arith}
-use Rattle.std.proofs.lemmas.List.Elements.{filter-append}
+use Rattle.std.proofs.Common.{◌≡◌, ℕ, zero, suc, ◌+◌, ◌<◌, ◌≤◌, Bool, true, false, cond, eqb, List, [], ◌∷◌, ◌++◌, map, length, Some, filter, sym, refl, ap, ◌∙◌, inl, inr, add-zero, zero-add, arith}
+use Rattle.std.proofs.lemmas.List.Elements.{filter-append, All-filter, filter_passes}
+use Rattle.std.proofs.lemmas.List.FromFn.{get_or-range_with_len, length-range_with_len}
+use Rattle.std.proofs.lemmas.List.Sums.{length-filter, count_by-le-length}
 use Rattle.std.proofs.lemmas.Bool.{cases_eq, ne_eqb, eq-eqb, eqb-true, false≢true}
-use Rattle.std.proofs.lemmas.Option.{slice_get-get_or}
-use Rattle.std.specs.List.{range_with_len, slice_get, slice_index_or}
-use Rattle.ground.specs.KnownLaws.{not_both, one_answer}
+use Rattle.std.proofs.lemmas.Option.{get_or_from_slice_get, slice_get_within}
+use Rattle.std.specs.List.{All, range_with_len, slice_get, slice_index_or}
 use Rattle.ground.specs.Questions.{arcs_at}
 
 pub counting_append : (a n k : ℕ) → range_with_len a (n + k) ≡ range_with_len a n ++ range_with_len (a + n) k
@@ -62,27 +63,7 @@ arcs_at-none end m p none = kept_none (λ j. eqb (end j) p) 0 m (λ j l h. ne_eq
 pub arcs_at-beyond : (end : ℕ → ℕ) (m n p : ℕ) → ((j : ℕ) → j < m → end j < n) → n ≤ p → arcs_at end m p ≡ []
 arcs_at-beyond end m n p inside beyond = arcs_at-none end m p (λ j h e. omega (arith, inside j h))
 
--- what a filter of numbers keeps: some of them, each of which passes, and each that passes
-kept_few : (t : ℕ → Bool) (a n : ℕ) → length (filter t (range_with_len a n)) ≤ n
-kept_few t a zero = omega arith
-kept_few t a (suc n) = at (t a) (kept_few t (a + 1) n)
-  where
-    at : (b : Bool) → length (filter t (range_with_len (a + 1) n)) ≤ n → length (cond b (a ∷ filter t (range_with_len (a + 1) n)) (filter t (range_with_len (a + 1) n))) ≤ suc n
-    at true h = omega arith
-    at false h = omega arith
-
-kept_at : (t : ℕ → Bool) (a n k j : ℕ) → slice_get (filter t (range_with_len a n)) k ≡ Some j → (a ≤ j) × (j < a + n) × (t j ≡ true)
-kept_at t a zero k j e = absurd (not_both None j e refl)
-kept_at t a (suc n) k j e = at (t a) refl k (λ i f. kept_at t (a + 1) n i j f) e
-  where
-    Later : Type 0
-    Later = (i : ℕ) → slice_get (filter t (range_with_len (a + 1) n)) i ≡ Some j → (a + 1 ≤ j) × (j < a + 1 + n) × (t j ≡ true)
-
-    at : (b : Bool) → t a ≡ b → (k : ℕ) → Later → slice_get (cond b (a ∷ filter t (range_with_len (a + 1) n)) (filter t (range_with_len (a + 1) n))) k ≡ Some j → (a ≤ j) × (j < a + suc n) × (t j ≡ true)
-    at true p zero later e = let s = one_answer (Some a) a j refl e in (omega arith, omega arith, ap t (sym s) ∙ p)
-    at true p (suc k) later e = let r = later k e in (omega arith, omega arith, r.2)
-    at false p k later e = let r = later k e in (omega arith, omega arith, r.2)
-
+-- a number that passes is kept
 kept_has : (t : ℕ → Bool) (a n j : ℕ) → a ≤ j → j < a + n → t j ≡ true → (k : ℕ) × (k < length (filter t (range_with_len a n))) × (slice_get (filter t (range_with_len a n)) k ≡ Some j)
 kept_has t a zero j l h e = absurd (omega arith)
 kept_has t a (suc n) j l h e =
@@ -104,16 +85,25 @@ kept_has t a (suc n) j l h e =
 
 pub arcs_at-few : (end : ℕ → ℕ) (m p : ℕ) → length (arcs_at end m p) ≤ m
 unfolding arcs_at
-arcs_at-few end m p = kept_few (λ j. eqb (end j) p) 0 m
+arcs_at-few end m p =
+    let t : ℕ → Bool = λ j. eqb (end j) p in
+    omega (arith, length-filter t (range_with_len 0 m), count_by-le-length t (range_with_len 0 m), length-range_with_len 0 m)
 
--- an arc that is listed at a place is there
+-- the arcs that are listed at a place are there
+pub arcs_are_there : (end : ℕ → ℕ) (m p k d : ℕ) → k < length (arcs_at end m p) → slice_index_or (arcs_at end m p) k d < m
+unfolding arcs_at
+arcs_are_there end m p =
+    let below : All (λ j. j < m) (range_with_len 0 m) = λ i d h. omega (arith, length-range_with_len 0 m, get_or-range_with_len 0 m i d) in
+    All-filter (λ j. eqb (end j) p) (λ j. j < m) (range_with_len 0 m) below
+
 pub arcs_at-at : (end : ℕ → ℕ) (m p k j : ℕ) → slice_get (arcs_at end m p) k ≡ Some j → (j < m) × (end j ≡ p)
 unfolding arcs_at
-arcs_at-at end m p k j e = let r = kept_at (λ j. eqb (end j) p) 0 m k j e in (omega arith, eqb-true (end j) p r.2)
-
--- and so is each of them
-pub arcs_are_there : (end : ℕ → ℕ) (m p k d : ℕ) → k < length (arcs_at end m p) → slice_index_or (arcs_at end m p) k d < m
-arcs_are_there end m p k d h = (arcs_at-at end m p k _ (slice_get-get_or (arcs_at end m p) k d h)).0
+arcs_at-at end m p k j e =
+    let xs = arcs_at end m p in
+    let there = slice_get_within xs k j e in
+    let is = get_or_from_slice_get xs k j j e in
+    let passes = filter_passes (λ j. eqb (end j) p) (range_with_len 0 m) k j there in
+    (omega (arith, arcs_are_there end m p k j there), eqb-true (end j) p (ap (λ j. eqb (end j) p) (sym is) ∙ passes))
 
 -- an arc that is there is listed
 pub arcs_at-has : (end : ℕ → ℕ) (m p j : ℕ) → j < m → end j ≡ p → (k : ℕ) × (k < length (arcs_at end m p)) × (slice_get (arcs_at end m p) k ≡ Some j)

@@ -1,4 +1,4 @@
 pub mod ArcsAt
-pub mod Coming
+pub mod EndLaws
 pub mod Offered
 pub mod Walks

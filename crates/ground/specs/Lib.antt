@@ -2,4 +2,4 @@ pub mod Meanings
 pub mod Questions
 pub mod Chains
 pub mod KnownLaws
-pub mod Ways
+pub mod Ends

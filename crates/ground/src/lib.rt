@@ -2,4 +2,5 @@
 #![tactic(auto)]
 
 pub mod around;
+pub mod end;
 pub mod ground;

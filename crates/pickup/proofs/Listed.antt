@@ -5,11 +5,16 @@ use Rattle.std.proofs.lemmas.List.{map-append, length-append, length-map}
 use Rattle.std.proofs.lemmas.Bool.{cases_lt, cases_eq, lt-ltb, le-ltb, eq-eqb, ne_eqb, cond-true, cond-false, false≢true}
 use Rattle.std.specs.List.{slice_get}
 use Rattle.ground.proofs.ArcsAt.{arcs_at-append, arcs_at-same, arcs_at-none, arcs_at-beyond}
-use Rattle.ground.specs.KnownLaws.{one_answer, not_both, known_there, known_absent}
+use Rattle.ground.proofs.EndLaws.{end_in}
+use Rattle.ground.specs.KnownLaws.{known_there, known_absent}
 use Rattle.ground.specs.Meanings.{Meaning, Lawful}
-use Rattle.ground.specs.Questions.{known, arcs_at, arcs_from, arcs_into}
+use Rattle.ground.specs.Ends.{end_of, arcs_by}
+use Rattle.ground.specs.Questions.{known, arcs_at}
+use Rattle.ground.specs.declared.end.End.{End}
+use Rattle.ground.specs.declared.end.End.TheVariants.{Tail, Head}
 use Rattle.pickup.specs.LayerLaws.{copied_before, copied_after, copied_own, lowered_before, lowered_after, fitting}
 use Rattle.pickup.specs.Layers.{fits, crossings, copied, lowered, layered}
+use Rattle.pickup.specs.Parts.{crossing_end}
 
 -- one more arc, where there is one
 abbrev pub extra : Bool → ℕ → List ℕ
@@ -26,8 +31,8 @@ byte_is true = (refl, omega arith)
 byte_is false = (refl, omega arith)
 
 pub nth_copy : (f : ℕ → ℕ) (xs : List ℕ) (here : Bool) (j k x : ℕ) → slice_get xs k ≡ Some x → slice_get (map f xs ++ extra here j) k ≡ Some (f x)
-nth_copy f [] here j k x e = let z : ◌≡◌ {A = ℕ} 0 1 = cc in absurd (omega arith)
-nth_copy f (y ∷ xs) here j zero x e = ap Some (ap f (one_answer (Some y) y x refl e))
+nth_copy f [] here j k x e = cc
+nth_copy f (y ∷ xs) here j zero x e = cc
 nth_copy f (y ∷ xs) here j (suc k) x e = nth_copy f xs here j k x e
 
 pub nth_last : (f : ℕ → ℕ) (xs : List ℕ) (j k : ℕ) → k ≡ length xs → slice_get (map f xs ++ extra true j) k ≡ Some j
@@ -38,7 +43,7 @@ pub nth_past_last : (f : ℕ → ℕ) (xs : List ℕ) (here : Bool) (j k : ℕ) 
 nth_past_last f [] true j zero e h = absurd (h refl refl)
 nth_past_last f [] true j (suc k) e h = refl
 nth_past_last f [] false j k e h = refl
-nth_past_last f (y ∷ xs) here j zero e h = absurd (not_both (Some y) y refl e)
+nth_past_last f (y ∷ xs) here j zero e h = cc
 nth_past_last f (y ∷ xs) here j (suc k) e h = nth_past_last f xs here j k e (λ t i. h t (ap suc i))
 
 pub nth_extra : (f : ℕ → ℕ) (xs : List ℕ) (here : Bool) (j k : ℕ) → slice_get xs k ≡ None → slice_get (map f xs ++ extra here j) k ≡ known (here && eqb k (length xs)) j
@@ -125,12 +130,14 @@ first_few b p first e = at (ltb p b.places) e
     at true e = omega arith
     at false e = omega arith
 
-module _ (b : Meaning) (q : ℕ) (l : Lawful b) (p place first : ℕ) (h : p < (layered b q).places) (e : place ≡ lowered b.places p) (f : first ≡ cond (ltb p b.places) 0 b.arcs) where
+-- the ends of the layer's arcs are made of those below
+ends : (e : End) (b : Meaning) (q : ℕ) → end_of e (layered b q) ≡ copied b.arcs (end_of e b) (λ j. b.places + end_of e b j) (crossing_end e b q)
+ends Tail b q = refl
+ends Head b q = refl
+
+module _ (e : End) (b : Meaning) (q : ℕ) (l : Lawful b) (p place first : ℕ) (h : p < (layered b q).places) (s : place ≡ lowered b.places p) (f : first ≡ cond (ltb p b.places) 0 b.arcs) where
   all_arcs : (layered b q).arcs ≡ 2 * b.arcs + crossings b q
   all_arcs = cond-true (fits b) (2 * b.arcs + crossings b q) 0 (fitting b q (2 * b.places) p h).0
 
-  pub layer_from : arcs_from (layered b q) p ≡ map (λ j. first + j) (arcs_from b place) ++ extra (ltb q b.places && eqb q p) (2 * b.arcs)
-  layer_from = ap (λ m. arcs_at (layered b q).tail m p) all_arcs ∙ listed b q b.tail q l.tail_in p place first e f
-
-  pub layer_into : arcs_into (layered b q) p ≡ map (λ j. first + j) (arcs_into b place) ++ extra (ltb q b.places && eqb (b.places + q) p) (2 * b.arcs)
-  layer_into = ap (λ m. arcs_at (layered b q).head m p) all_arcs ∙ listed b q b.head (b.places + q) l.head_in p place first e f
+  pub layer_at : arcs_by e (layered b q) p ≡ map (λ j. first + j) (arcs_by e b place) ++ extra (ltb q b.places && eqb (crossing_end e b q) p) (2 * b.arcs)
+  layer_at = ap₂ (λ end m. arcs_at end m p) (ends e b q) all_arcs ∙ listed b q (end_of e b) (crossing_end e b q) (end_in e b l) p place first s f

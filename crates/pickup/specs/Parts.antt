@@ -1,10 +1,17 @@
 -- How a layer's arcs and places lie over those of the ground below. Assumes nothing.
-use Rattle.std.specs.Prelude.{◌≡◌, ℕ, ◌-◌, ◌*◌, ◌<◌, ◌≤◌, cond, Some, None, Option, nat_lt}
+use Rattle.std.specs.Prelude.{◌≡◌, ℕ, ◌+◌, ◌-◌, ◌*◌, ◌<◌, ◌≤◌, cond, Some, None, Option, nat_lt}
 use Rattle.ground.specs.Meanings.{Meaning}
+use Rattle.ground.specs.declared.end.End.{End}
+use Rattle.ground.specs.declared.end.End.TheVariants.{Tail, Head}
 use Rattle.pickup.specs.Layers.{layered, lowered}
 use Rattle.pickup.specs.declared.parts.Part.{Part}
 use Rattle.pickup.specs.declared.parts.Part.TheVariants.{Before, After, Crossing}
 use Rattle.pickup.specs.declared.parts.Side.{Side}
+
+-- the place at an end of the pick-up arc
+abbrev pub crossing_end : End → Meaning → ℕ → ℕ
+crossing_end Tail b q = q
+crossing_end Head b q = b.places + q
 
 -- which arc of the layer j is, if there is one
 abbrev pub part_of : Meaning → ℕ → ℕ → Option Part

@@ -22,5 +22,6 @@ impl<'a, G: Ground> Pickup<'a, G> {
     }
 }
 
+mod ends;
 pub mod layer;
 mod look;

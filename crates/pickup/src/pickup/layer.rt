@@ -4,6 +4,7 @@ ghost use Rattle.pickup.specs.Layers.{layered};
 
 use crate::parts::Part;
 use crate::pickup::Pickup;
+use ground::end::End;
 use ground::ground::Ground;
 
 impl<'a, G: Ground> Ground for Pickup<'a, G> {
@@ -30,19 +31,11 @@ impl<'a, G: Ground> Ground for Pickup<'a, G> {
     }
 
     fn tail(&self, arc: u32) -> Option<u32> {
-        match self.part(arc)? {
-            Part::Before(copy) => self.below.tail(copy),
-            Part::After(copy) => Some(self.raised(self.below.tail(copy)?)),
-            Part::Crossing => Some(self.at),
-        }
+        self.end_of(End::Tail, arc)
     }
 
     fn head(&self, arc: u32) -> Option<u32> {
-        match self.part(arc)? {
-            Part::Before(copy) => self.below.head(copy),
-            Part::After(copy) => Some(self.raised(self.below.head(copy)?)),
-            Part::Crossing => Some(self.raised(self.at)),
-        }
+        self.end_of(End::Head, arc)
     }
 
     fn least(&self, arc: u32) -> Option<u32> {
@@ -59,40 +52,18 @@ impl<'a, G: Ground> Ground for Pickup<'a, G> {
     }
 
     fn leaving_count(&self, place: u32) -> u32 {
-        match self.side(place) {
-            Some(side) => self.below.leaving_count(side.place) + u32::from(self.starts_at(place)),
-            None => 0,
-        }
+        self.count_at(End::Tail, place)
     }
 
     fn entering_count(&self, place: u32) -> u32 {
-        match self.side(place) {
-            Some(side) => self.below.entering_count(side.place) + u32::from(self.ends_at(place)),
-            None => 0,
-        }
+        self.count_at(End::Head, place)
     }
 
     fn leaving(&self, place: u32, k: u32) -> Option<u32> {
-        let side = self.side(place)?;
-        match self.below.leaving(side.place, k) {
-            Some(arc) => Some(side.copy_of(arc)),
-            None => self.crossing(
-                self.starts_at(place),
-                k,
-                self.below.leaving_count(side.place),
-            ),
-        }
+        self.nth_at(End::Tail, place, k)
     }
 
     fn entering(&self, place: u32, k: u32) -> Option<u32> {
-        let side = self.side(place)?;
-        match self.below.entering(side.place, k) {
-            Some(arc) => Some(side.copy_of(arc)),
-            None => self.crossing(
-                self.ends_at(place),
-                k,
-                self.below.entering_count(side.place),
-            ),
-        }
+        self.nth_at(End::Head, place, k)
     }
 }

@@ -1,11 +1,12 @@
 // Where an arc or a place of the layer stands over the ground below.
-ghost use Rattle.std.specs.Prelude.{◌≡◌, ◌+◌, ◌*◌, ◌<◌, ◌&&◌, ◌==◌, nat_lt};
+ghost use Rattle.std.specs.Prelude.{◌≡◌, ◌+◌, ◌<◌, nat_lt};
 ghost use Rattle.ground.specs.Questions.{known};
 ghost use Rattle.pickup.specs.Layers.{fits as room_for};
-ghost use Rattle.pickup.specs.Parts.{part_of, SideOf};
+ghost use Rattle.pickup.specs.Parts.{crossing_end, part_of, SideOf};
 
 use crate::parts::{Part, Side};
 use crate::pickup::Pickup;
+use ground::end::End;
 use ground::ground::Ground;
 
 impl<'a, G: Ground> Pickup<'a, G> {
@@ -31,29 +32,17 @@ impl<'a, G: Ground> Pickup<'a, G> {
         self.below.places() + place
     }
 
-    // Whether the pick-up arc leaves a place.
-    pub(super) fn starts_at(&self, place: u32) -> bool
-        ensures { result ≡ (nat_lt self.now.at (G.Ground.meaning self.now.below.now).places && self.now.at == place) }
+    // The place at an end of the pick-up arc, if there is one.
+    pub(super) fn crossing_end(&self, end: End) -> Option<u32>
+        ensures { result ≡ known (nat_lt self.now.at (G.Ground.meaning self.now.below.now).places) (crossing_end end (G.Ground.meaning self.now.below.now) self.now.at) }
     {
-        self.crosses() && self.at == place
-    }
-
-    // Whether the pick-up arc enters a place.
-    pub(super) fn ends_at(&self, place: u32) -> bool
-        ensures { result ≡ (nat_lt self.now.at (G.Ground.meaning self.now.below.now).places && (G.Ground.meaning self.now.below.now).places + self.now.at == place) }
-    {
-        self.crosses() && self.raised(self.at) == place
-    }
-
-    // The pick-up arc as the k-th at a place: it stands after the copies, where it is there at all.
-    pub(super) fn crossing(&self, here: bool, k: u32, copies: u32) -> Option<u32>
-        ensures { result ≡ known (here && k == copies) (2 * (G.Ground.meaning self.now.below.now).arcs) }
-    {
-        if here && k == copies {
-            Some(2 * self.below.arcs())
-        } else {
-            None
+        if !self.crosses() {
+            return None;
         }
+        Some(match end {
+            End::Tail => self.at,
+            End::Head => self.raised(self.at),
+        })
     }
 
     // Which arc of the layer a number is, if there is one.

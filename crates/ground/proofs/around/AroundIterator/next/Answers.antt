@@ -1,5 +1,5 @@
 use Rattle.std.proofs.Common.{length, sym, ap, ◌∙◌, arith}
-use Rattle.ground.proofs.Coming.{arcs_by-next}
+use Rattle.ground.proofs.EndLaws.{arcs_by-next}
 use Rattle.ground.proofs.around.AroundIterator.next.Goals as goal
 
 pub overflow_add-self : goal.overflow_add-self
