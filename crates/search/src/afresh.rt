@@ -1,7 +1,7 @@
 // A search that starts afresh: Closed is emptied, and the queue is made anew from the places.
 ghost use Rattle.std.specs.Prelude.{◌≡◌, ◌<◌, length};
 ghost use Rattle.queue.specs.Calls.{Empty};
-ghost use Rattle.queue.specs.Keys.{key_upto};
+ghost use Rattle.queue.specs.Keys.{key_cmp};
 ghost use Rattle.search.specs.Steps.{StartedAfresh};
 
 use crate::aim::Aim;
@@ -14,7 +14,7 @@ use queue::queue::Queue;
 
 // Empties the queue.
 fn clear(entries: &mut [Entry<Key>])
-    ensures { Empty key_upto entries.new }
+    ensures { Empty key_cmp entries.new }
 {
     let _ = Queue::empty(entries);
 }

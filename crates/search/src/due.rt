@@ -10,7 +10,6 @@ use crate::place::Place;
 use ground::ground::Ground;
 use queue::entry::Entry;
 use queue::key::Key;
-use queue::order::TotalOrder;
 use queue::queue::Queue;
 use terms::amount::FAR;
 

@@ -1,7 +1,7 @@
 // A place's record and its entry in the queue, written together.
 ghost use Rattle.std.specs.Prelude.{◌≡◌, ◌+◌, ◌<◌, length, slice_set};
 ghost use Rattle.queue.specs.Calls.{Low};
-ghost use Rattle.queue.specs.Keys.{key_upto};
+ghost use Rattle.queue.specs.Keys.{key_cmp};
 ghost use Rattle.queue.specs.Sound.{Sound};
 ghost use Rattle.search.specs.Queued.{Kept, Synced, wanted_for};
 
@@ -22,7 +22,7 @@ pub(crate) fn enqueue<G: Ground>(
 )
     requires here { aim.here < (G.Ground.meaning site.now).places }
     requires there { p < (G.Ground.meaning site.now).places }
-    ensures { Sound key_upto entries.old → Low entries.old → p < length entries.old → Kept p (wanted_for (G.Ground.meaning site.now) aim p place) entries.old entries.new }
+    ensures { Sound key_cmp entries.old → Low entries.old → p < length entries.old → Kept p (wanted_for (G.Ground.meaning site.now) aim p place) entries.old entries.new }
 {
     let mut queue = Queue::resume(entries);
     if !place.waits() {

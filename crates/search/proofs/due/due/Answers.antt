@@ -1,6 +1,6 @@
 use Rattle.std.proofs.Common.{◌≡◌, ℕ, List, sym, subst, arith, rules}
 use Rattle.queue.specs.Calls.{Empty, Leads}
-use Rattle.queue.specs.Keys.{key_upto}
+use Rattle.queue.specs.Keys.{key_cmp}
 use Rattle.queue.specs.Sound.{Sound}
 use Rattle.queue.specs.declared.entry.Entry.{Entry}
 use Rattle.queue.specs.declared.key.Key.{Key}
@@ -9,11 +9,11 @@ use Rattle.search.proofs.due.due.Goals as goal
 use Rattle.search.proofs.due.due.Goals.{then-p-places-via-then-p-places, then-p-places-via-else-p-places+then-here_is_first}
 
 -- the queue over the table holds what the table does
-empty_there : (es₀ es : List (Entry Key)) → es₀ ≡ es → (Sound key_upto es₀ → Empty key_upto es₀) → Sound key_upto es → Empty key_upto es
-empty_there es₀ es e h sound = subst (λ (z : List (Entry Key)). Empty key_upto z) e (h (subst (λ (z : List (Entry Key)). Sound key_upto z) (sym e) sound))
+empty_there : (es₀ es : List (Entry Key)) → es₀ ≡ es → (Sound key_cmp es₀ → Empty key_cmp es₀) → Sound key_cmp es → Empty key_cmp es
+empty_there es₀ es e h sound = subst (λ (z : List (Entry Key)). Empty key_cmp z) e (h (subst (λ (z : List (Entry Key)). Sound key_cmp z) (sym e) sound))
 
-leads_there : (es₀ es : List (Entry Key)) (x : ℕ × Key) → es₀ ≡ es → (Sound key_upto es₀ → Leads key_upto es₀ x) → Sound key_upto es → Leads key_upto es x
-leads_there es₀ es x e h sound = subst (λ (z : List (Entry Key)). Leads key_upto z x) e (h (subst (λ (z : List (Entry Key)). Sound key_upto z) (sym e) sound))
+leads_there : (es₀ es : List (Entry Key)) (x : ℕ × Key) → es₀ ≡ es → (Sound key_cmp es₀ → Leads key_cmp es₀ x) → Sound key_cmp es → Leads key_cmp es x
+leads_there es₀ es x e h sound = subst (λ (z : List (Entry Key)). Leads key_cmp z x) e (h (subst (λ (z : List (Entry Key)). Sound key_cmp z) (sym e) sound))
 
 pub returns-in_default : goal.returns-in_default
 returns-in_default g c =
@@ -33,7 +33,7 @@ returns-then-p-places g c =
     let aim = c.args.aim in
     let places = c.args.places.now in
     let es = c.args.entries.now in
-    let leads : Sound key_upto es → Leads key_upto es (c.in-Some.p, c.in-Some.key) = leads_there c.resume.result.entries.now es (c.in-Some.p, c.in-Some.key) c.resume.ensures.content c.in-Some.ensures in
+    let leads : Sound key_cmp es → Leads key_cmp es (c.in-Some.p, c.in-Some.key) = leads_there c.resume.result.entries.now es (c.in-Some.p, c.in-Some.key) c.resume.ensures.content c.in-Some.ensures in
     record {
       same = search rules;
       within = tt;
@@ -50,7 +50,7 @@ returns g c =
     let aim = c.args.aim in
     let places = c.args.places.now in
     let es = c.args.entries.now in
-    let leads : Sound key_upto es → Leads key_upto es (c.in-Some.p, c.in-Some.key) = leads_there c.resume.result.entries.now es (c.in-Some.p, c.in-Some.key) c.resume.ensures.content c.in-Some.ensures in
+    let leads : Sound key_cmp es → Leads key_cmp es (c.in-Some.p, c.in-Some.key) = leads_there c.resume.result.entries.now es (c.in-Some.p, c.in-Some.key) c.resume.ensures.content c.in-Some.ensures in
     record {
       same = search rules;
       within = omega (arith, c.if-p-places.false, c.places.ensures);
