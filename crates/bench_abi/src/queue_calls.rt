@@ -69,10 +69,7 @@ const MOST: usize = 16_384;
 // Carries out the steps on an empty queue of so many entries, and writes what each answered.
 #[unsafe(no_mangle)]
 pub extern "C" fn queue_run(size: usize, steps: &[Step], answers: &mut [Answer]) {
-    let mut table = [Entry::free(Key {
-        first: 0,
-        second: 0,
-    }); MOST];
+    let mut table = [Entry::free(); MOST];
     let entries = &mut table[0..size.min(MOST)];
     let mut q = Queue::empty(entries);
     for (s, a) in steps.iter().zip(answers.iter_mut()) {
@@ -83,10 +80,7 @@ pub extern "C" fn queue_run(size: usize, steps: &[Step], answers: &mut [Answer])
 // The same, with a sum over the answers in place of them, to be timed.
 #[unsafe(no_mangle)]
 pub extern "C" fn queue_sum(size: usize, steps: &[Step]) -> u64 {
-    let mut table = [Entry::free(Key {
-        first: 0,
-        second: 0,
-    }); MOST];
+    let mut table = [Entry::free(); MOST];
     let entries = &mut table[0..size.min(MOST)];
     let mut q = Queue::empty(entries);
     let mut sum: u64 = 0;

@@ -64,7 +64,7 @@ pub extern "C" fn roads_survey(
     let mut ends = [0u32; PLACES];
     let mut order = [0u32; ARCS];
     let mut sums = [0u32; PLACES];
-    let mut entries = [Entry::free(0u32); PLACES];
+    let mut entries = [Entry::free(); PLACES];
     let m = strips.len().min(ARCS);
     let arcs = &table[0..m];
     coded(survey(

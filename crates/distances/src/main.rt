@@ -24,7 +24,7 @@ fn measure(
     let mut ends = vec![in heap; 0u32; PLACES]?;
     let mut order = vec![in heap; 0u32; ARCS]?;
     let mut sums = vec![in heap; 0u32; PLACES]?;
-    let mut queue = vec![in heap; Entry::free(0u32); PLACES]?;
+    let mut queue = vec![in heap; Entry::free(); PLACES]?;
     // more places than the tables hold are all the same to Survey
     let n = places(arcs).min(16_385) as u32;
     match survey(

@@ -33,7 +33,7 @@ impl Desk {
             plan: Plan::new(),
             costs: [0; ARCS],
             places: [Place::default(); PLACES],
-            queue: [Entry::free(Key::default()); PLACES],
+            queue: [Entry::free(); PLACES],
             list: [0; PLACES],
         }
     }

@@ -47,7 +47,7 @@ fn in_the_town(rt: HostRuntime) -> Result<(), Fail> {
         &mut [0; 4],
         &mut [0; 4],
         &mut [0; 4],
-        &mut [Entry::free(0); 4],
+        &mut [Entry::free(); 4],
     )?;
     assert_eq!(rt; heights, [0, 4, 2, 9]);
     let mut own = [0; 4];

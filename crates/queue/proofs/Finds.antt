@@ -1,30 +1,32 @@
 -- Finding a number, or room, in a table.
-use Rattle.std.proofs.Common.{◌≡◌, ℕ, ◌+◌, ◌%◌, ◌<◌, ◌≤◌, Bool, true, false, List, length, get_or, set, is_some, Some, None, Option, sym, ap, ◌∙◌, subst, inl, inr, arith, below_more}
+use Rattle.std.proofs.Common.{◌≡◌, ℕ, ◌+◌, ◌%◌, ◌<◌, ◌≤◌, Bool, true, false, List, length, get_or, set, is_none, is_some, Some, None, Option, sym, refl, ap, ◌∙◌, subst, inl, inr, arith, below_more}
+use Rattle.std.specs.List.{AllWithin, HoldsAt}
+use Rattle.std.specs.Option.{MatchOption}
 use Rattle.std.proofs.lemmas.List.{get_or-map, get_or_past, length-map, map-set, get_or-set_same, get_or-set_other}
-use Rattle.std.proofs.lemmas.Bool.{cases_Bool, cases_eq, cases_lt, both_ways, cond-false, cond-true}
+use Rattle.std.proofs.lemmas.Bool.{cases_Bool, cases_eq, cases_lt, both_ways, false≢true}
 use Rattle.queue.specs.declared.entry.Entry.{Entry}
-use Rattle.queue.specs.Content.{item_of, items, held}
-use Rattle.queue.specs.Sound.{under, free_or, Absent, Homed, Found, Room, Scanned, Chosen, Marked}
+use Rattle.queue.specs.Content.{free_entry, item_of, items, held}
+use Rattle.queue.specs.Sound.{under, Absent, Homed, Found, Room, Chosen, Marked}
 use Rattle.queue.specs.Tree.{strays}
 use Rattle.queue.proofs.Contests.{item_read, length_items}
 use Rattle.queue.proofs.Contents.{under_some, other_under, none_under, count_full}
 use Rattle.queue.proofs.Walks.{blind}
+
+pub free_none : {A : Type 0} (x : Option A) → is_none x ≡ true → x ≡ None
+free_none None h = refl
+free_none (Some a) h = absurd (false≢true h)
+
+pub taken_some : {A : Type 0} (x : Option A) → is_none x ≡ false → is_some x ≡ true
+taken_some None h = absurd (false≢true (sym h))
+taken_some (Some a) h = refl
 
 module _ {K : Type 0} (es : List (Entry K)) where
   -- the entry read at a slot, and whether it holds the number
   pub under_read : (i n : ℕ) (e : Entry K) (b : Bool) → i < length es → e ≡ get_or es i e → b ≡ under (item_of e) n → under (get_or (items es) i None) n ≡ b
   under_read i n e b l r h = ap (λ x. under x n) (item_read es i e l r) ∙ sym h
 
-  pub taken_read : (i : ℕ) (d : Entry K) → i < length es → (get_or es i d).live ≡ true → get_or (items es) i None ≡ None → ⊥
-  taken_read i d l h z =
-      let q : ◌≡◌ {A = Option (ℕ × K)} (Some ((get_or es i d).number, (get_or es i d).key)) None = sym (cond-true (get_or es i d).live _ _ h) ∙ (sym (get_or-map item_of es i d None l) ∙ z) in
-      let o : ◌≡◌ {A = ℕ} 0 1 = cc q in omega arith
-
-  pub free_read : (i : ℕ) (d : Entry K) → i < length es → (get_or es i d).live ≡ false → get_or (items es) i None ≡ None
-  free_read i d l h = get_or-map item_of es i d None l ∙ cond-false _ _ _ h
-
-  pub some_read : (i : ℕ) (d : Entry K) → i < length es → (get_or es i d).live ≡ true → is_some (get_or (items es) i None) ≡ true
-  some_read i d l h = ap is_some (get_or-map item_of es i d None l ∙ cond-true _ _ _ h)
+  pub free_read : (i : ℕ) (e : Entry K) (b : Bool) → i < length es → e ≡ get_or es i e → b ≡ is_none (item_of e) → is_none (get_or (items es) i None) ≡ b
+  free_read i e b l r h = ap is_none (item_read es i e l r) ∙ sym h
 
   -- past the table there is nothing
   pub absent_past : (n s : ℕ) → length es ≤ s → under (get_or (items es) s None) n ≡ false
@@ -59,35 +61,26 @@ module _ {K : Type 0} (es : List (Entry K)) where
   chosen_free n (Some s) f r = (r.0, λ m ne. none_under _ m r.1, λ homed distinct t ne. f homed t)
   chosen_free n None f r = (r, f)
 
-  pub chosen_scanned : (n : ℕ) (r : Option ℕ) → Scanned es n r → Chosen es n r
-  chosen_scanned n (Some s) (l, inl u) = chosen_found n s (l, u)
-  chosen_scanned n (Some s) (l, inr w) = chosen_free n (Some s) (λ _. w.1) (l, w.0)
-  chosen_scanned n None r = chosen_free n None (λ _. r.1) r.0
+  pub chosen : (n : ℕ) (f r : Option ℕ) → Found es n f → MatchOption f (Room es r) (λ s. r ≡ Some s) → Chosen es n r
+  chosen n None r f room = chosen_free n r f room
+  chosen n (Some s) r f e = subst (λ (o : Option ℕ). Chosen es n o) (sym e) (chosen_found n s f)
 
-  -- ---- one scan for both
+  -- ---- a look at every slot
 
-  -- the free slot found so far, or that all slots so far are taken
-  unfoldable pub Freest : ℕ → Option ℕ → Type 0
-  Freest i (Some s) = (s < i) × (get_or (items es) s None ≡ None)
-  Freest i None = (s : ℕ) → s < i → get_or (items es) s None ≡ None → ⊥
+  -- the first slot whose item passes a test, or that none does
+  abbrev pub First : (Option (ℕ × K) → Bool) → Option ℕ → Type 0
+  First q r = MatchOption r (AllWithin (λ e. q (item_of e) ≡ false) es 0 (length es)) (λ i. (i < length es) × HoldsAt (λ e. q (item_of e) ≡ true) es i × AllWithin (λ e. q (item_of e) ≡ false) es 0 i)
 
-  pub freest_none : Freest 0 None
-  unfolding Freest
-  freest_none s l = absurd (omega arith)
+  item_at : (q : Option (ℕ × K) → Bool) (s : ℕ) → s < length es → q (get_or (items es) s None) ≡ q (item_of (get_or es s free_entry))
+  item_at q s l = ap q (get_or-map item_of es s free_entry None l)
 
-  freest_step : (i : ℕ) (x : Option (ℕ × K)) (f : Option ℕ) → get_or (items es) i None ≡ x → Freest i f → Freest (i + 1) (free_or x i f)
-  unfolding Freest
-  freest_step i None f e h = (omega arith, e)
-  freest_step i (Some x) (Some s) e h = (omega (arith, h.0), h.1)
-  freest_step i (Some x) None e h = below_more _ _ h (λ z. let q : Some x ≡ None = sym e ∙ z in let o : ◌≡◌ {A = ℕ} 0 1 = cc q in omega arith)
+  pub found_first : (n : ℕ) (r : Option ℕ) → First (λ x. under x n) r → Found es n r
+  found_first n (Some s) f = (f.0, item_at (λ x. under x n) s f.0 ∙ f.1 free_entry)
+  found_first n None f = λ _. absent_all n (length es) (omega arith) (λ s l. item_at (λ x. under x n) s l ∙ f s free_entry (omega arith) l)
 
-  pub freest_more : (i : ℕ) (e : Entry K) (f r : Option ℕ) → i < length es → e ≡ get_or es i e → Freest i f → r ≡ free_or (item_of e) i f → Freest (i + 1) r
-  freest_more i e f r l at h q = let P : Option ℕ → Type 0 = λ z. Freest (i + 1) z in subst P (sym q) (freest_step i (item_of e) f (item_read es i e l at) h)
-
-  pub scanned_all : (n i : ℕ) (f : Option ℕ) → i ≤ length es → length es ≤ i → Freest i f → ((s : ℕ) → s < i → under (get_or (items es) s None) n ≡ false) → Scanned es n f
-  unfolding Freest
-  scanned_all n i (Some s) l g h away = (omega (arith, h.0), inr (h.1, absent_all n i g away))
-  scanned_all n i None l g h away = (full_all i g h, absent_all n i g away)
+  pub room_first : (r : Option ℕ) → First is_none r → Room es r
+  room_first (Some s) f = (f.0, free_none _ (item_at is_none s f.0 ∙ f.1 free_entry))
+  room_first None f = full_all (length es) (omega arith) (λ s l z. both_ways _ (item_at is_none s l ∙ f s free_entry (omega arith) l) (ap is_none z))
 
   -- ---- the mark
 

@@ -8,4 +8,3 @@ mod Least
 mod Paths
 mod Rooms
 mod Walks
-mod Wipes

@@ -1,4 +1,5 @@
 -- There is room for a number below the table's length that is absent, where all held numbers are below it.
+use Rattle.std.specs.declared.cmp.Ordering.{Ordering}
 use Rattle.std.proofs.Common.{◌≡◌, ℕ, zero, suc, ◌<◌, Bool, true, cond, eqb, ◌⊎◌, List, length, get_or, Some, None, Option, sym, ap, ◌∙◌, subst, inl, inr, arith}
 use Rattle.queue.specs.declared.entry.Entry.{Entry}
 use Rattle.queue.specs.Calls.{Low}
@@ -48,7 +49,7 @@ number : {K : Type 0} → Option (ℕ × K) → ℕ
 number None = 0
 number (Some x) = x.0
 
-module _ {K : Type 0} (upto : K → K → Bool) (es : List (Entry K)) (sd : Sound upto es) (low : Low es) (n : ℕ) (lt : n < length es) (none : key_of es n ≡ None) (full : held es ≡ length es) where
+module _ {K : Type 0} (cmp : K → K → Ordering) (es : List (Entry K)) (sd : Sound cmp es) (low : Low es) (n : ℕ) (lt : n < length es) (none : key_of es n ≡ None) (full : held es ≡ length es) where
   -- every slot is taken, by a number below the length
   slot : (s : ℕ) → s < length es → (k : K) × (get_or (items es) s None ≡ Some (number (get_or (items es) s None), k))
   unfolding number

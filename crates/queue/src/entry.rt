@@ -1,45 +1,76 @@
 // One entry of the table that a queue works in.
-ghost use Rattle.std.specs.Prelude.{◌≡◌, length, replicate};
-ghost use Rattle.queue.specs.Content.{free_entry};
+ghost use Rattle.std.specs.Prelude.{◌≡◌, ℕ, length, replicate, Some, None, Option, is_none};
+ghost use Rattle.queue.specs.Content.{free_entry, item_of};
+ghost use Rattle.queue.specs.Sound.{under};
 
+// The number has a meaning only beside a key. An `Option` of both would make the planner's entry longer than the 40 bytes it may have.
 #[derive(Clone, Copy, Default)]
 pub struct Entry<K> {
-    pub(crate) key: K,
+    key: Option<K>,
+    number: u32,
     // the slot that wins at the node of this entry's index
     pub(crate) winner: usize,
-    pub(crate) number: u32,
-    pub(crate) live: bool,
     // an entry whose home is this slot may stand in another
     pub(crate) strayed: bool,
 }
 
 impl<K> Entry<K> {
-    // A free entry, to make a table of, or to wipe one with.
-    pub fn free(key: K) -> Self
-        ensures { result ≡ free_entry key }
+    // A free entry, to make a table of.
+    pub fn free() -> Self
+        ensures { result ≡ free_entry }
     {
         Entry {
-            key,
-            winner: 0,
+            key: None,
             number: 0,
-            live: false,
+            winner: 0,
             strayed: false,
+        }
+    }
+
+    // Whether nothing stands here.
+    pub(crate) fn is_free(&self) -> bool
+        ensures { result ≡ is_none (item_of self.now) }
+    {
+        self.key.is_none()
+    }
+
+    // Whether a key stands here under the number.
+    #[tactic(auto, unfolding(crate::specs::Sound::under))]
+    pub(crate) fn holds(&self, number: u32) -> bool
+        ensures { result ≡ under (item_of self.now) number }
+    {
+        self.number == number && self.key.is_some()
+    }
+}
+
+impl<K: Copy> Entry<K> {
+    // What stands here: a number and its key.
+    pub(crate) fn item(&self) -> Option<(u32, K)>
+        ensures { result ≡ item_of self.now }
+    {
+        self.key.map(|key| (self.number, key))
+    }
+
+    // The same entry with something else standing here.
+    pub(crate) fn with(self, item: Option<(u32, K)>) -> Self
+        ensures item { item_of result ≡ item }
+        ensures winner { result.winner ≡ self.winner }
+        ensures strayed { result.strayed ≡ self.strayed }
+    {
+        match item {
+            Some((number, key)) => Entry {
+                key: Some(key),
+                number,
+                ..self
+            },
+            None => Entry { key: None, ..self },
         }
     }
 }
 
-// Writes one entry over every other.
-fn overwrite<K: Copy>(entries: &mut [Entry<K>], value: Entry<K>)
-    ensures { entries.new ≡ replicate (length entries.old) value }
-{
-    for e in entries.iter_mut() {
-        *e = value;
-    }
-}
-
 // Wipes a table: whatever a queue left in it is gone.
-pub fn wipe<K: Copy>(entries: &mut [Entry<K>], key: K)
-    ensures { entries.new ≡ replicate (length entries.old) (free_entry key) }
+pub fn wipe<K: Copy>(entries: &mut [Entry<K>])
+    ensures { entries.new ≡ replicate (length entries.old) free_entry }
 {
-    overwrite(entries, Entry::free(key));
+    entries.fill(Entry::free());
 }

@@ -1,11 +1,8 @@
 // A priority queue over a lent slice of entries, for any kind of key that has a total order.
 #![tactic(auto)]
 
-mod calls;
-mod drain;
 pub mod entry;
 pub mod key;
-pub mod order;
 pub mod queue;
 mod slots;
 mod tree;

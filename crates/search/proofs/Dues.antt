@@ -10,7 +10,7 @@ use Rattle.method.specs.Laws.{Waits, HasTurn, SearchOver}
 use Rattle.method.proofs.Chosen.{choice_laws}
 use Rattle.queue.specs.Calls.{Empty, Leads}
 use Rattle.queue.specs.Content.{key_of}
-use Rattle.queue.specs.Keys.{key_upto}
+use Rattle.queue.specs.Keys.{key_cmp, key_upto}
 use Rattle.queue.specs.Tree.{before as ahead}
 use Rattle.queue.specs.declared.entry.Entry.{Entry}
 use Rattle.queue.specs.declared.key.Key.{Key}
@@ -44,7 +44,7 @@ module _ (m : Meaning) (law : Lawful m) (aim : Aim) (costs : List ℕ) (places :
       inside h (inl w) = let is = stored q h w in (told_waits m law aim costs places s sh st.cached q h w, cc)
       inside h (inr w) = absurd (not_both (key_of es q) k e (st.synced.below q h ∙ cond-false (is_waiting (place_at places q)) _ _ w))
 
-  pub none_due : Empty key_upto es → ended m s ≡ true
+  pub none_due : Empty key_cmp es → ended m s ≡ true
   none_due e = (choice_laws m s).1.over (inl (λ q w. not_both (key_of es q) _ (waits_held q w) (e.content q)))
 
   here_key : entry_key (key_for aim.slack.sixteenths 0 (place_at places aim.here)) ≡ entry_key (key m s s.here)
@@ -59,27 +59,27 @@ module _ (m : Meaning) (law : Lawful m) (aim : Aim) (costs : List ℕ) (places :
   here_rhs : (place_at places aim.here).rhs ≡ rhs m s s.here
   here_rhs = rhs_stored m law aim costs places s sh st.cached aim.here here_in ∙ ap (rhs m s) sh.here_is
 
-  module _ (p : ℕ) (k : Key) (leads : Leads key_upto es (p, k)) where
+  module _ (p : ℕ) (k : Key) (leads : Leads key_cmp es (p, k)) where
     waits_first : Waits m s p
     waits_first = (held_waits p k leads.stands).0
 
     key_first : k ≡ entry_key (key m s p)
     key_first = (held_waits p k leads.stands).1
 
-    in_front : (q : ℕ) → Waits m s q → (q ≡ p) ⊎ (ahead key_upto (p, entry_key (key m s p)) (q, entry_key (key m s q)) ≡ true)
-    in_front q w = subst (λ (z : Key). (q ≡ p) ⊎ (ahead key_upto (p, z) (q, entry_key (key m s q)) ≡ true)) key_first (leads.first q (entry_key (key m s q)) (waits_held q w))
+    in_front : (q : ℕ) → Waits m s q → (q ≡ p) ⊎ (ahead key_cmp (p, entry_key (key m s p)) (q, entry_key (key m s q)) ≡ true)
+    in_front q w = subst (λ (z : Key). (q ≡ p) ⊎ (ahead key_cmp (p, z) (q, entry_key (key m s q)) ≡ true)) key_first (leads.first q (entry_key (key m s q)) (waits_held q w))
 
     least : (q : ℕ) → Waits m s q → before (key m s q) (key m s p) ≡ false
     least q w = go (in_front q w)
       where
-        go : (q ≡ p) ⊎ (ahead key_upto (p, entry_key (key m s p)) (q, entry_key (key m s q)) ≡ true) → before (key m s q) (key m s p) ≡ false
+        go : (q ≡ p) ⊎ (ahead key_cmp (p, entry_key (key m s p)) (q, entry_key (key m s q)) ≡ true) → before (key m s q) (key m s p) ≡ false
         go (inl e) = subst (λ (z : ℕ). before (key m s z) (key m s p) ≡ false) (sym e) (not_before_self (key m s p))
         go (inr h) = ahead_least p q (key m s p) (key m s q) h
 
     lowest : (q : ℕ) → Waits m s q → q < p → before (key m s p) (key m s q) ≡ true
     lowest q w low = go (in_front q w)
       where
-        go : (q ≡ p) ⊎ (ahead key_upto (p, entry_key (key m s p)) (q, entry_key (key m s q)) ≡ true) → before (key m s p) (key m s q) ≡ true
+        go : (q ≡ p) ⊎ (ahead key_cmp (p, entry_key (key m s p)) (q, entry_key (key m s q)) ≡ true) → before (key m s p) (key m s q) ≡ true
         go (inl e) = absurd (omega arith)
         go (inr h) = ahead_lowest p q (key m s p) (key m s q) h low
 

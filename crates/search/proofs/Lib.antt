@@ -1,3 +1,4 @@
+pub mod QueueSide
 pub mod Ranks
 pub mod Shown
 pub mod Dues

@@ -2,7 +2,7 @@
 use Rattle.std.proofs.Common.{◌≡◌, ℕ, ◌<◌, true, false, arith}
 use Rattle.std.proofs.lemmas.Bool.Decides.{nat_tests}
 use Rattle.method.specs.Keys.{before, Key as Pair}
-use Rattle.queue.specs.Keys.{key_upto}
+use Rattle.queue.specs.Keys.{key_cmp, key_upto}
 use Rattle.queue.specs.Tree.{before as ahead}
 use Rattle.search.specs.Queued.{entry_key}
 
@@ -13,10 +13,10 @@ pub before_upto : (k l : Pair) → before l k ≡ false → key_upto (entry_key 
 before_upto k l h = grind (arith, nat_tests)
 
 -- of two items, the one that is ahead has no larger key, and has a smaller one where its number is the larger
-pub ahead_least : (p q : ℕ) (k l : Pair) → ahead key_upto (p, entry_key k) (q, entry_key l) ≡ true → before l k ≡ false
+pub ahead_least : (p q : ℕ) (k l : Pair) → ahead key_cmp (p, entry_key k) (q, entry_key l) ≡ true → before l k ≡ false
 ahead_least p q k l h = grind (arith, nat_tests)
 
-pub ahead_lowest : (p q : ℕ) (k l : Pair) → ahead key_upto (p, entry_key k) (q, entry_key l) ≡ true → q < p → before k l ≡ true
+pub ahead_lowest : (p q : ℕ) (k l : Pair) → ahead key_cmp (p, entry_key k) (q, entry_key l) ≡ true → q < p → before k l ≡ true
 ahead_lowest p q k l h low = grind (arith, nat_tests)
 
 pub before_carries : (h k l : Pair) → before k h ≡ false → before l k ≡ false → before l h ≡ false

@@ -5,7 +5,7 @@ use Rattle.ground.specs.Meanings.{Meaning}
 use Rattle.method.specs.Keys.{over_key, under_key, Key as Pair}
 use Rattle.queue.specs.Calls.{Changed}
 use Rattle.queue.specs.Content.{key_of}
-use Rattle.queue.specs.Keys.{key_upto}
+use Rattle.queue.specs.Keys.{key_cmp, key_upto}
 use Rattle.queue.specs.Sound.{Sound}
 use Rattle.queue.specs.declared.entry.Entry.{Entry}
 use Rattle.queue.specs.declared.key.Key.{Key}
@@ -31,13 +31,13 @@ wanted_for m aim p place = cond (is_waiting place) (Some (entry_key (key_for aim
 
 -- the queue holds just what is wanted of the places below a number, and nothing beyond
 pub record Synced (m : Meaning) (aim : Aim) (upto : ℕ) (places : List Place) (es : List (Entry Key)) : Type 0 where
-  pub sound : Sound key_upto es
+  pub sound : Sound key_cmp es
   pub below : (p : ℕ) → p < upto → key_of es p ≡ wanted_for m aim p (place_at places p)
   pub beyond : (p : ℕ) → upto ≤ p → key_of es p ≡ None
 
 -- under one number stands what is wanted there, and all else is as it was
 pub record Kept (p : ℕ) (o : Option Key) (es es' : List (Entry Key)) : Type 0 where
-  pub sound : Sound key_upto es'
+  pub sound : Sound key_cmp es'
   pub content : Changed p o es es'
 
 -- no key in the queue comes before here's, the smallest being this one: here is level below far, and its own key is at most that

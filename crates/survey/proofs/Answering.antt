@@ -38,5 +38,5 @@ module _ (n : ℕ) (xs ys : List ℕ) (size : length ys ≡ n) where
   answered from arcs work ready (Err e) m =
       (subst (Refused from n arcs xs work) (sym m.1) (apart m.0 ready m.2), ap (λ zs. zs ++ post_of 0 (n - 0) xs) m.3 ∙ take-append-drop (n - 0) xs)
 
-pub wiped_queue : (n k : ℕ) (es es' : List (Entry ℕ)) → length es' ≡ n → es' ≡ replicate n (free_entry 0) → k < n → get_or (es' ++ post_of 0 (n - 0) es) k (free_entry 0) ≡ free_entry 0
-wiped_queue n k es es' size e h = front_below n es es' size (free_entry 0) k h ∙ ap (λ zs. get_or zs k (free_entry 0)) e ∙ get_or-replicate n k (free_entry 0) (free_entry 0) h
+pub wiped_queue : (n k : ℕ) (es es' : List (Entry ℕ)) → length es' ≡ n → es' ≡ replicate n free_entry → k < n → get_or (es' ++ post_of 0 (n - 0) es) k free_entry ≡ free_entry 0
+wiped_queue n k es es' size e h = front_below n es es' size free_entry k h ∙ ap (λ zs. get_or zs k free_entry) e ∙ get_or-replicate n k free_entry free_entry h

@@ -1,5 +1,6 @@
 -- One arc is relaxed.
-use Rattle.std.proofs.Common.{◌≡◌, ℕ, suc, ◌+◌, ◌*◌, ◌<◌, ◌≤◌, Bool, true, false, cond, eqb, ltb, leb, List, [], ◌∷◌, ◌++◌, length, get_or, set, is_some, Some, None, Option, sym, refl, ap, ◌∙◌, subst, inl, inr, arith, length-set, get_or-set_other, get_or-set_same}
+use Rattle.std.proofs.Common.{◌≡◌, ℕ, suc, ◌+◌, ◌*◌, ◌<◌, ◌≤◌, Bool, true, false, cond, eqb, ltb, List, [], ◌∷◌, ◌++◌, length, get_or, set, is_some, Some, None, Option, sym, refl, ap, ◌∙◌, subst, inl, inr, arith, length-set, get_or-set_other, get_or-set_same}
+use Rattle.std.specs.Ordering.{nat_cmp}
 use Rattle.ground.specs.Chains.{Chain, sum_of}
 use Rattle.ground.specs.KnownLaws.{not_both}
 use Rattle.ground.specs.Meanings.{Meaning}
@@ -66,7 +67,7 @@ module _ (g : Meaning) (from : ℕ) (j : ℕ) (pending sums : List ℕ) (es : Li
 
   -- it is shorter: the head has a lower sum, and is queued
   module _ (es' : List (Entry ℕ)) (next : ℕ) (there : j < g.arcs) (tail_in : g.tail j < g.places) (head_in : g.head j < g.places) (least_high : g.least j ≤ 10000) (size' : length es' ≡ length es)
-      (near : get_or sums (g.tail j) 0 < far) (is : next ≡ get_or sums (g.tail j) 0 + g.least j) (less : next < get_or sums (g.head j) 0) (t : TakenIn leb (g.head j) next es es') where
+      (near : get_or sums (g.tail j) 0 < far) (is : next ≡ get_or sums (g.tail j) 0 + g.least j) (less : next < get_or sums (g.head j) 0) (t : TakenIn nat_cmp (g.head j) next es es') where
     now_at : (p : ℕ) → p ≡ g.head j → get_or (set sums (g.head j) next) p 0 ≡ next
     now_at p e = ap (λ z. get_or (set sums (g.head j) next) z 0) e ∙ get_or-set_same sums (g.head j) next 0 (omega (arith, l.size))
 

@@ -1,5 +1,6 @@
 -- How a survey begins, takes up a place, and ends.
-use Rattle.std.proofs.Common.{◌≡◌, ℕ, zero, suc, ◌+◌, ◌*◌, ◌<◌, ◌≤◌, ltb, leb, List, [], ◌∷◌, length, get_or, set, Some, None, sym, refl, ap, ◌∙◌, inl, inr, arith, length-set, get_or-set_other, get_or-set_same}
+use Rattle.std.proofs.Common.{◌≡◌, ℕ, zero, suc, ◌+◌, ◌*◌, ◌<◌, ◌≤◌, ltb, List, [], ◌∷◌, length, get_or, set, Some, None, sym, refl, ap, ◌∙◌, inl, inr, arith, length-set, get_or-set_other, get_or-set_same}
+use Rattle.std.specs.Ordering.{nat_cmp}
 use Rattle.ground.proofs.ArcsAt.{arcs_at-has}
 use Rattle.ground.specs.Chains.{Chain, sum_of}
 use Rattle.ground.specs.KnownLaws.{not_both}
@@ -27,7 +28,7 @@ module _ (g : Meaning) (from : ℕ) where
   few_reached pending sums es l = omega (arith, count_by-le-length (λ s. ltb s far) sums, l.size)
 
   -- a place is taken out of the queue, and its arcs are pending
-  pub take_up : (sums : List ℕ) (es es' : List (Entry ℕ)) (p k : ℕ) → Labelled g from [] sums es → length es' ≡ length es → Leads leb es (p, k) → Freed leb p es es' → Labelled g from (arcs_at g.tail g.arcs p) sums es'
+  pub take_up : (sums : List ℕ) (es es' : List (Entry ℕ)) (p k : ℕ) → Labelled g from [] sums es → length es' ≡ length es → Leads nat_cmp es (p, k) → Freed nat_cmp p es es' → Labelled g from (arcs_at g.tail g.arcs p) sums es'
   take_up sums es es' p k l size' lead f = record {
     size = l.size;
     slots = size' ∙ l.slots;
@@ -44,7 +45,7 @@ module _ (g : Meaning) (from : ℕ) where
     known = λ m v e. elim (cases_eq m p) [ inl h ↦ absurd (not_both (key_of es' m) v e (ap (key_of es') h ∙ changed_same es es' p None f.content)) | inr ne ↦ l.known m v (sym (changed_other es es' p None f.content m ne) ∙ e) ];
   }
 
-  pub taken_in : (sums : List ℕ) (es : List (Entry ℕ)) (p k : ℕ) → Labelled g from [] sums es → Leads leb es (p, k) → (p < g.places) × (get_or sums p 0 < far) × (get_or sums p 0 + 10000 ≤ 10000 * g.places)
+  pub taken_in : (sums : List ℕ) (es : List (Entry ℕ)) (p k : ℕ) → Labelled g from [] sums es → Leads nat_cmp es (p, k) → (p < g.places) × (get_or sums p 0 < far) × (get_or sums p 0 + 10000 ≤ 10000 * g.places)
   taken_in sums es p k l lead =
       let h : p < g.places = omega (arith, l.low p k lead.stands, l.slots) in
       let near = l.known p k lead.stands in
@@ -71,7 +72,7 @@ module _ (g : Meaning) (from : ℕ) where
     }
 
   -- every place is far but the one to survey from, which is queued
-  pub begun : (sums : List ℕ) (es es' : List (Entry ℕ)) → length sums ≡ g.places → from < g.places → ((j : ℕ) → j < g.arcs → g.tail j < g.places) → ((p : ℕ) → p < length sums → get_or sums p 0 ≡ far) → ((p : ℕ) → length sums ≤ p → get_or sums p 0 ≡ 0) → Empty leb es → length es' ≡ g.places → TakenIn leb from 0 es es' → Labelled g from [] (set sums from 0) es'
+  pub begun : (sums : List ℕ) (es es' : List (Entry ℕ)) → length sums ≡ g.places → from < g.places → ((j : ℕ) → j < g.arcs → g.tail j < g.places) → ((p : ℕ) → p < length sums → get_or sums p 0 ≡ far) → ((p : ℕ) → length sums ≤ p → get_or sums p 0 ≡ 0) → Empty nat_cmp es → length es' ≡ g.places → TakenIn nat_cmp from 0 es es' → Labelled g from [] (set sums from 0) es'
   begun sums es es' size h tail_in all past empty slots t = record {
     size = length-set sums from 0 ∙ size;
     slots = slots;

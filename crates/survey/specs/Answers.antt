@@ -28,5 +28,5 @@ pub record Wiped (n m : ℕ) (work work' : Columns) : Type 0 where
   pub ends : WipedTo n work.ends work'.ends
   pub order : WipedTo m work.order work'.order
   pub sums : WipedTo n work.sums work'.sums
-  pub queue : (k : ℕ) → k < n → slice_index_or work'.queue k (free_entry 0) ≡ free_entry 0
-  pub queue_beyond : (k : ℕ) → n ≤ k → slice_index_or work'.queue k (free_entry 0) ≡ slice_index_or work.queue k (free_entry 0)
+  pub queue : (k : ℕ) → k < n → slice_index_or work'.queue k free_entry ≡ free_entry 0
+  pub queue_beyond : (k : ℕ) → n ≤ k → slice_index_or work'.queue k free_entry ≡ slice_index_or work.queue k free_entry

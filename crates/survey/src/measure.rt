@@ -63,7 +63,7 @@ pub(crate) fn measure(
     ensures ends { Zero ends.new }
     ensures order { Zero order.new }
     ensures sums { Zero sums.new }
-    ensures queue { queue.new ≡ replicate (length queue.old) (free_entry 0) }
+    ensures queue { queue.new ≡ replicate (length queue.old) free_entry }
 {
     index(End::Tail, sums.len(), arcs, ends, order);
     spread(from, arcs, ends, order, sums, queue);
@@ -71,6 +71,6 @@ pub(crate) fn measure(
     ends.fill(0);
     order.fill(0);
     sums.fill(0);
-    wipe(queue, 0);
+    wipe(queue);
     answer
 }

@@ -12,7 +12,6 @@ use crate::tables::Tables;
 use crate::waiting::first_waiting;
 use ground::ground::Ground;
 use queue::key::Key;
-use queue::order::TotalOrder;
 use terms::amount::FAR;
 
 // Whether no key in the queue comes before here's, the smallest being this one: here is level below Far, and its own key is at most that.

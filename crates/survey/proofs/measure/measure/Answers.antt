@@ -22,5 +22,5 @@ returns c =
       ends = λ k h. search rules;
       order = λ k h. search rules;
       sums = λ k h. search rules;
-      queue = c.wipe.ensures ∙ ap (λ k. replicate k (free_entry 0)) c.spread.auto.entries;
+      queue = c.wipe.ensures ∙ ap (λ k. replicate k free_entry) c.spread.auto.entries;
     }

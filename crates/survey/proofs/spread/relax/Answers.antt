@@ -1,4 +1,5 @@
-use Rattle.std.proofs.Common.{◌+◌, leb, length, get_or, Result, refl, subst, arith}
+use Rattle.std.proofs.Common.{◌+◌, length, get_or, Result, refl, subst, arith}
+use Rattle.std.specs.Ordering.{nat_cmp}
 use Rattle.arcs.specs.Tables.{arc_at}
 use Rattle.queue.specs.Calls.{PutDone}
 use Rattle.terms.specs.declared.refusal.Refusal.{Refusal}
@@ -19,7 +20,7 @@ returns-then-next-sums c =
       falls = set_lower sums (arc_at arcs j).head _ ok.head_in (omega arith);
       done = λ from pending l near.
           let e = c.put.ensures.low l.sound l.low (omega (arith, ok.head_in, l.slots)) in
-          let t = subst (λ (r : Result (Unit {0}) Refusal). PutDone leb (arc_at arcs j).head next es es' r) e c.put.ensures.done l.sound in
+          let t = subst (λ (r : Result (Unit {0}) Refusal). PutDone nat_cmp (arc_at arcs j).head next es es' r) e c.put.ensures.done l.sound in
           relax_lower (flat (length sums) arcs) from j pending sums es l es' next c.requires.there ok.tail_in ok.head_in ok.least_high c.put.ensures.size near refl (omega arith) t;
     }
 

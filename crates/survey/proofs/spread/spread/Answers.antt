@@ -1,4 +1,5 @@
-use Rattle.std.proofs.Common.{◌≡◌, ℕ, leb, [], length, set, Result, sym, refl, subst, arith, length-set, rules}
+use Rattle.std.proofs.Common.{◌≡◌, ℕ, [], length, set, Result, sym, refl, subst, arith, length-set, rules}
+use Rattle.std.specs.Ordering.{nat_cmp}
 use Rattle.arcs.specs.Index.{Indexed}
 use Rattle.arcs.specs.Tables.{AllLawful, end_at}
 use Rattle.arcs.specs.declared.end.End.TheVariants.{Tail}
@@ -22,7 +23,7 @@ loop-item-init c =
     let empty = c.empty-queue.ensures.empty in
     let len : length sums ≡ length c.args.sums.now = omega (arith, c.fill.ensures.len) in
     let e = c.put.ensures.low empty.sound (λ m k h. absurd (not_both (key_of es m) k h (empty.content m))) (omega (arith, c.requires.start, c.requires.slots, c.empty-queue.ensures.size)) in
-    let t = subst (λ (r : Result (Unit {0}) Refusal). PutDone leb from 0 es es' r) e c.put.ensures.done empty.sound in
+    let t = subst (λ (r : Result (Unit {0}) Refusal). PutDone nat_cmp from 0 es es' r) e c.put.ensures.done empty.sound in
     let b = begun (flat (length sums) arcs) from sums es es' refl (omega (arith, len, c.requires.start)) (λ j h. omega (arith, len, (c.requires.lawful j h).tail_in)) (λ p h. search rules) (λ p h. get_or_past sums p 0 h) empty (omega (arith, len, c.put.ensures.size, c.empty-queue.ensures.size, c.requires.slots)) t in
     subst (λ (z : ℕ). Labelled (flat z arcs) from [] (set sums from 0) es') (sym (length-set sums from 0)) b
 

@@ -42,8 +42,8 @@ returns c =
         ends = wiped_to n c.args.ends.now c.measure.new.ends es c.measure.ensures.ends;
         order = wiped_to m c.args.order.now c.measure.new.order os c.measure.ensures.order;
         sums = wiped_to n c.args.sums.now c.measure.new.sums ss c.measure.ensures.sums;
-        queue = λ k h. wiped_queue n k c.args.queue.now c.measure.new.queue qs (c.measure.ensures.queue ∙ ap (λ z. replicate z (free_entry 0)) qe) h;
-        queue_beyond = front_beyond n c.args.queue.now c.measure.new.queue qs (free_entry 0);
+        queue = λ k h. wiped_queue n k c.args.queue.now c.measure.new.queue qs (c.measure.ensures.queue ∙ ap (λ z. replicate z free_entry) qe) h;
+        queue_beyond = front_beyond n c.args.queue.now c.measure.new.queue qs free_entry;
       };
       kept = λ no. absurd (no ready);
       law = λ ok own fits. record {

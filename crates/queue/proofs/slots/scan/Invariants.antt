@@ -1,7 +1,0 @@
-use Rattle.std.proofs.Common.{◌≡◌, ℕ, ◌<◌, false, get_or, None}
-use Rattle.queue.specs.Content.{items}
-use Rattle.queue.specs.Sound.{under}
-use Rattle.queue.proofs.slots.scan.Given as goal
-
-abbrev pub invariant-loop-slot : goal.invariant-loop-slot
-invariant-loop-slot g l = (s : ℕ) → s < l.slot → under (get_or (items l.es) s None) l.number ≡ false
