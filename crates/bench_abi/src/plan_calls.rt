@@ -10,6 +10,7 @@ use plan::plan::Plan;
 use planner::carry_out::carry_out;
 use queue::entry::Entry;
 use queue::key::Key;
+use queue::queue::Queue;
 use roads::roads::Roads;
 use search::place::Place;
 use terms::arc::Arc;
@@ -214,6 +215,18 @@ impl<'a> Desk<'a> {
     }
 }
 
+// Leaves some keys of an earlier queue in a table.
+fn leave_keys(entries: &mut [Entry<Key>], anything: u32) {
+    let key = Key {
+        first: 0,
+        second: anything,
+    };
+    let mut queue = Queue::empty(entries);
+    for number in 1..9 {
+        let _ = queue.put(anything.wrapping_mul(number), key);
+    }
+}
+
 // Carries out the calls of every stretch. The plan has not begun, and its tables are full of anything. An answer is left
 // as it was where its ground is none.
 #[unsafe(no_mangle)]
@@ -241,15 +254,13 @@ pub extern "C" fn plan_run(
             rhs: anything.wrapping_mul(31),
             closed: anything % 2 == 0,
         }; PLACES],
-        queue: [Entry::free(Key {
-            first: 0,
-            second: anything,
-        }); PLACES],
+        queue: [Entry::free(); PLACES],
         costs,
         listed,
         list,
         taken: 0,
     };
+    leave_keys(&mut desk.queue, anything);
     for stretch in stretches {
         let to = (stretch.asks_to as usize).min(answers.len());
         let from = (stretch.asks_from as usize).min(to);
