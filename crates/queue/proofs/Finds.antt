@@ -1,12 +1,12 @@
 -- Finding a number, or room, in a table.
-use Rattle.std.proofs.Common.{◌≡◌, ℕ, ◌+◌, ◌%◌, ◌<◌, ◌≤◌, Bool, true, false, List, length, get_or, set, is_none, is_some, Some, None, Option, sym, refl, ap, ◌∙◌, subst, inl, inr, arith, below_more}
+use Rattle.std.proofs.Common.{◌≡◌, ℕ, ◌%◌, ◌<◌, ◌≤◌, Bool, true, false, List, length, get_or, set, is_none, is_some, Some, None, Option, sym, refl, ap, ◌∙◌, subst, inl, inr, arith}
 use Rattle.std.specs.List.{AllWithin, HoldsAt}
 use Rattle.std.specs.Option.{MatchOption}
 use Rattle.std.proofs.lemmas.List.{get_or-map, get_or_past, length-map, map-set, get_or-set_same, get_or-set_other}
 use Rattle.std.proofs.lemmas.Bool.{cases_Bool, cases_eq, cases_lt, both_ways, false≢true}
 use Rattle.queue.specs.declared.entry.Entry.{Entry}
-use Rattle.queue.specs.Content.{free_entry, item_of, items, held}
-use Rattle.queue.specs.Sound.{under, Absent, Homed, Found, Room, Chosen, Marked}
+use Rattle.queue.specs.Content.{free_entry, item_of, items}
+use Rattle.queue.specs.Sound.{under, Found, Room, Chosen, Marked}
 use Rattle.queue.specs.Tree.{strays}
 use Rattle.queue.proofs.Contests.{item_read, length_items}
 use Rattle.queue.proofs.Contents.{under_some, other_under, none_under, count_full}
@@ -21,34 +21,12 @@ taken_some None h = absurd (false≢true (sym h))
 taken_some (Some a) h = refl
 
 module _ {K : Type 0} (es : List (Entry K)) where
-  -- the entry read at a slot, and whether it holds the number
-  pub under_read : (i n : ℕ) (e : Entry K) (b : Bool) → i < length es → e ≡ get_or es i e → b ≡ under (item_of e) n → under (get_or (items es) i None) n ≡ b
-  under_read i n e b l r h = ap (λ x. under x n) (item_read es i e l r) ∙ sym h
-
   pub free_read : (i : ℕ) (e : Entry K) (b : Bool) → i < length es → e ≡ get_or es i e → b ≡ is_none (item_of e) → is_none (get_or (items es) i None) ≡ b
   free_read i e b l r h = ap is_none (item_read es i e l r) ∙ sym h
 
   -- past the table there is nothing
   pub absent_past : (n s : ℕ) → length es ≤ s → under (get_or (items es) s None) n ≡ false
   absent_past n s h = none_under _ n (get_or_past (items es) s None (let e = length_items es in omega arith))
-
-  pub absent_all : (n i : ℕ) → length es ≤ i → ((s : ℕ) → s < i → under (get_or (items es) s None) n ≡ false) → Absent (items es) n
-  absent_all n i h below s = elim (cases_lt s i) [ inl l ↦ below s l | inr g ↦ absent_past n s (omega arith) ]
-
-  pub full_all : (i : ℕ) → length es ≤ i → ((s : ℕ) → s < i → get_or (items es) s None ≡ None → ⊥) → held es ≡ length es
-  full_all i h below = let e = length_items es in count_full (items es) (λ s l. below s (omega arith)) ∙ e
-
-  -- with its home unmarked, a number that is not at home is nowhere
-  pub absent_home : (n h : ℕ) (d : Entry K) → h ≡ n % length es → h < length es → under (get_or (items es) h None) n ≡ false → (get_or es h d).strayed ≡ false → Homed (length es) (items es) (strays es) → Absent (items es) n
-  absent_home n h d at l away plain homed s =
-      elim (cases_Bool (under (get_or (items es) s None) n)) [
-        | inl t ↦ absurd
-            (elim (homed s n t) [
-              | inl q ↦ (let P : ℕ → Type 0 = λ j. under (get_or (items es) j None) n ≡ false in both_ways _ (subst P (at ∙ sym q) away) t)
-              | inr m ↦ (let P : ℕ → Type 0 = λ j. get_or (strays es) j false ≡ false in both_ways _ (subst P at (get_or-map (λ x. x.strayed) es h d false l ∙ plain)) m)
-            ])
-        | inr f ↦ f
-      ]
 
   -- ---- the slot that is chosen
 
@@ -76,11 +54,13 @@ module _ {K : Type 0} (es : List (Entry K)) where
 
   pub found_first : (n : ℕ) (r : Option ℕ) → First (λ x. under x n) r → Found es n r
   found_first n (Some s) f = (f.0, item_at (λ x. under x n) s f.0 ∙ f.1 free_entry)
-  found_first n None f = λ _. absent_all n (length es) (omega arith) (λ s l. item_at (λ x. under x n) s l ∙ f s free_entry (omega arith) l)
+  found_first n None f = λ _ s. elim (cases_lt s (length es)) [ inl l ↦ item_at (λ x. under x n) s l ∙ f s free_entry (omega arith) l | inr g ↦ absent_past n s g ]
 
   pub room_first : (r : Option ℕ) → First is_none r → Room es r
   room_first (Some s) f = (f.0, free_none _ (item_at is_none s f.0 ∙ f.1 free_entry))
-  room_first None f = full_all (length es) (omega arith) (λ s l z. both_ways _ (item_at is_none s l ∙ f s free_entry (omega arith) l) (ap is_none z))
+  room_first None f =
+      let size = length_items es in
+      count_full (items es) (λ s l z. both_ways _ (item_at is_none s (omega arith) ∙ f s free_entry (omega arith) (omega arith)) (ap is_none z)) ∙ size
 
   -- ---- the mark
 

@@ -3,13 +3,13 @@ ghost use Rattle.std.specs.Prelude.{◌≡◌, ℕ, length, replicate, Some, Non
 ghost use Rattle.queue.specs.Content.{free_entry, item_of};
 ghost use Rattle.queue.specs.Sound.{under};
 
-// The number has a meaning only beside a key. An `Option` of both would make the planner's entry longer than the 40 bytes it may have.
 #[derive(Clone, Copy, Default)]
 pub struct Entry<K> {
+    // What stands here, if anything. In one `Option` with its number the planner's entry would take 48 bytes, and 40 are allowed.
     key: Option<K>,
-    number: u32,
     // the slot that wins at the node of this entry's index
     pub(crate) winner: usize,
+    number: u32,
     // an entry whose home is this slot may stand in another
     pub(crate) strayed: bool,
 }
@@ -21,8 +21,8 @@ impl<K> Entry<K> {
     {
         Entry {
             key: None,
-            number: 0,
             winner: 0,
+            number: 0,
             strayed: false,
         }
     }

@@ -43,6 +43,7 @@ fn find_free<K>(es: &[Entry<K>], number: u32) -> Option<usize>
 }
 
 // The slot that a key under the number is to take: the one that holds the number, else a free one.
+#[tactic(auto, using(crate::proofs::Finds::chosen))]
 pub(crate) fn choose<K>(es: &[Entry<K>], number: u32) -> Option<usize>
     ensures { Chosen es.now number result }
 {
