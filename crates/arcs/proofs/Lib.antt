@@ -1,4 +1,4 @@
 pub mod Fronts
-pub mod Groups
+mod Groups
 mod Sorting
-mod Listed
+pub mod Listed

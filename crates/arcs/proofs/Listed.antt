@@ -3,9 +3,14 @@ use Rattle.std.proofs.Common.{◌≡◌, ℕ, zero, suc, ◌+◌, ◌-◌, ◌<�
 use Rattle.std.proofs.lemmas.List.{ext_get_or, get_or-drop, get_or-take, length-take-le}
 use Rattle.std.proofs.lemmas.Bool.{cases_lt, cond-true, cond-false, le-ltb, lt-ltb}
 use Rattle.std.specs.List.{slice_range}
-use Rattle.ground.proofs.ArcsAt.{arcs_at-beyond}
+use Rattle.ground.proofs.ArcsAt.{arcs_at-beyond, arcs_at-none}
 use Rattle.ground.specs.Questions.{arcs_at}
 use Rattle.arcs.specs.Index.{start_in, start_of, Indexed, Listing}
+use Rattle.arcs.specs.Lists.{Indexes}
+use Rattle.arcs.specs.Tables.{end_at}
+use Rattle.arcs.specs.declared.end.End.{End}
+use Rattle.arcs.specs.declared.index.Index.{Index}
+use Rattle.arcs.specs.declared.net.Net.{Net}
 use Rattle.arcs.proofs.Groups.{group_in}
 
 module _ (end : ℕ → ℕ) (m n : ℕ) (ends order : List ℕ) (x : Indexed end m n ends order) where
@@ -49,3 +54,8 @@ module _ (end : ℕ → ℕ) (m n : ℕ) (ends order : List ℕ) (x : Indexed en
     | inl h ↦ cond-true (ltb p n) (slice_range order (start_in ends p) (get_or ends p 0)) [] (lt-ltb p n h) ∙ indexed_list p h
     | inr h ↦ cond-false (ltb p n) (slice_range order (start_in ends p) (get_or ends p 0)) [] (le-ltb p n h) ∙ sym (arcs_at-beyond end m n p x.inside h)
   ]
+
+-- an index of no places is one of a net of no arcs
+pub empty_indexes : (i : Index) (end : End) (net : Net) → i.places ≡ 0 → net.arcs.now ≡ [] → Indexes i end net
+empty_indexes i end net e f p =
+    cond-false (ltb p i.places) _ [] (le-ltb p i.places (omega arith)) ∙ sym (arcs_at-none (end_at end net.arcs.now) (length net.arcs.now) p (λ j h _. omega (arith, ap length f)))

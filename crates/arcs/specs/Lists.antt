@@ -24,6 +24,8 @@ abbrev pub Indexes : Index → End → Net → Type 0
 Indexes i end net = (p : ℕ) → list_at i p ≡ arcs_by end net p
 
 -- both stand over the same tables
-pub record SameNames (i i' : Index) : Type 0 where
+pub record SameTables (i i' : Index) : Type 0 where
   pub ends : i'.ends.ghost_name ≡ i.ends.ghost_name
   pub order : i'.order.ghost_name ≡ i.order.ghost_name
+  pub ends_len : length i'.ends.now ≡ length i.ends.now
+  pub order_len : length i'.order.now ≡ length i.order.now

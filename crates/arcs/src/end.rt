@@ -4,7 +4,8 @@ ghost use Rattle.arcs.specs.Tables.{end_of};
 
 use terms::arc::Arc;
 
-// Which end of an arc is meant.
+// Which end of an arc is meant. An enum and no closure: the definitions go by its cases, and a closure would put its own
+// clauses into every contract.
 #[derive(Clone, Copy)]
 pub enum End {
     Tail,

@@ -7,21 +7,22 @@ use crate::end::End;
 use crate::net::Net;
 use crate::sort::sort;
 
+// Each table has a lifetime of its own, so that whoever lent both can tell in a proof what each holds afterwards.
 #[derive(Drop)]
-pub struct Index<'t> {
+pub struct Index<'e, 'o> {
     places: usize,
     // where the list of each place ends in the order
-    ends: &'t mut [u32],
+    ends: &'e mut [u32],
     // the lists, one after the other
-    order: &'t mut [u32],
+    order: &'o mut [u32],
     ghost listing: { Listing places ends.now order.now },
 }
 
-impl<'t> Index<'t> {
-    ghost use Rattle.arcs.specs.Lists.{list_at, start_at, HasRoom, Indexes, SameNames};
+impl<'e, 'o> Index<'e, 'o> {
+    ghost use Rattle.arcs.specs.Lists.{list_at, start_at, HasRoom, Indexes, SameTables};
 
     // An index of no places, over two tables.
-    pub fn empty(ends: &'t mut [u32], order: &'t mut [u32]) -> Index<'t>
+    pub fn empty(ends: &'e mut [u32], order: &'o mut [u32]) -> Index<'e, 'o>
         ensures places { result.places ≡ 0 }
         ensures ends { (result.ends.now ≡ ends.old) × (result.ends.ghost_name ≡ ends.entry.ghost_name) }
         ensures order { (result.order.now ≡ order.old) × (result.order.ghost_name ≡ order.entry.ghost_name) }
@@ -46,7 +47,7 @@ impl<'t> Index<'t> {
         ensures kept { (HasRoom self.old net.now.places (length net.now.arcs.now) → ⊥) → self.new ≡ self.old }
         ensures ends { SameFrom net.now.places self.old.ends.now self.new.ends.now }
         ensures order { SameFrom (length net.now.arcs.now) self.old.order.now self.new.order.now }
-        ensures same { SameNames self.old self.new }
+        ensures same { SameTables self.old self.new }
     {
         if !self.has_room(net.places, net.arcs.len()) {
             return;

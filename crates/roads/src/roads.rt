@@ -12,8 +12,8 @@ use arcs::net::Net;
 pub struct Roads<'a, 't> {
     net: Net<'a>,
     heights: &'t mut [u32],
-    leaving: Index<'t>,
-    entering: Index<'t>,
+    leaving: Index<'t, 't>,
+    entering: Index<'t, 't>,
     ghost few_places: { net.places ≤ 16384 },
     ghost few_arcs: { length net.arcs.now ≤ 131072 },
     ghost lawful: { AllLawful net.places net.arcs.now },

@@ -1,42 +1,27 @@
--- What Survey answers, once it has measured in the front of its tables.
-use Rattle.std.proofs.Common.{◌≡◌, ℕ, ◌-◌, ◌<◌, List, ◌++◌, length, get_or, take, drop, replicate, Ok, Err, Result, sym, ap, ◌∙◌, subst, arith, take-append-drop}
-use borrow.Rule.Slice.PartMut.{post_of}
-use Rattle.arcs.proofs.Fronts.{front_below, front_beyond}
-use Rattle.arcs.specs.Tables.{AllLawful, arc_at}
+-- What Survey answers, once it has measured in the front of the heights.
+use Rattle.std.proofs.Common.{ℕ, ◌≤◌, List, ◌++◌, length, get_or, take, drop, Ok, Err, Result, ◌≡◌, sym, ap, ◌∙◌, subst, take-append-drop}
+use Rattle.arcs.proofs.Fronts.{front_below}
+use Rattle.arcs.specs.Index.{SameFrom}
 use Rattle.queue.specs.Content.{free_entry}
-use Rattle.queue.specs.declared.entry.Entry.{Entry}
-use Rattle.roads.specs.Heights.{LowHeights, Steps}
-use Rattle.std.proofs.lemmas.List.{get_or-replicate}
-use Rattle.survey.specs.Answers.{Answered, Refused, apart, WipedTo}
+use Rattle.survey.specs.Answers.{Answered, Refused, apart}
 use Rattle.survey.specs.Sums.{flat, LeastSum}
-use Rattle.survey.specs.Surveys.{Columns, Declined, no_place, short, unlawful, outside, Measured, Ready, Zero}
+use Rattle.survey.specs.Surveys.{Measured, Ready}
+use Rattle.survey.specs.Workings.{Wiped}
+use Rattle.survey.specs.declared.working.Working.{Working}
 use Rattle.terms.specs.declared.arc.Arc.{Arc}
 use Rattle.terms.specs.declared.refusal.Refusal.{Refusal}
 
-pub not_ready : (from n : ℕ) (arcs : List Arc) (heights : List ℕ) (work : Columns) (e : Refusal) → Declined from n arcs heights work e → Ready from n arcs heights work → ⊥
-not_ready from n arcs heights work e (no_place h) r = omega (arith, r.there)
-not_ready from n arcs heights work e (short l h) r = h r.fits
-not_ready from n arcs heights work e (unlawful j l f h) r = h.unlawful (r.lawful j h.there)
-not_ready from n arcs heights work e (outside l f a h) r = h r.small
+pub answered : (from n : ℕ) (arcs : List Arc) (xs ys : List ℕ) (work : Working) → length ys ≡ n → Ready from n arcs xs work → (r : Result (Unit {0}) Refusal) → Measured from n arcs (take n xs) ys r → Answered from n arcs xs (ys ++ drop n xs) work r
+answered from n arcs xs ys work size ready (Ok u) m = (ready, λ p h. subst (λ (x : ℕ). LeastSum (flat n arcs) from p x) (sym (front_below n xs ys size 0 p h)) (m.least p h))
+answered from n arcs xs ys work size ready (Err e) m =
+    (subst (Refused from n arcs xs work) (sym m.1) (apart m.0 ready m.2), ap (λ zs. zs ++ drop n xs) m.3 ∙ take-append-drop n xs)
 
-pub not_ok : (e : Refusal) → ◌≡◌ {A = Result (Unit {0}) Refusal} (Err e) (Ok tt) → ⊥
-not_ok e p = let z : ◌≡◌ {A = ℕ} 0 1 = cc in omega arith
-
-module _ (n : ℕ) (xs ys : List ℕ) (size : length ys ≡ n) where
-  pub wiped_to : Zero ys → WipedTo n xs (ys ++ post_of 0 (n - 0) xs)
-  wiped_to z = record { zero = λ k h. front_below n xs ys size 0 k h ∙ z k (omega arith); beyond = front_beyond n xs ys size 0 }
-
-  pub front_low : LowHeights n ys → LowHeights n (ys ++ post_of 0 (n - 0) xs)
-  front_low low p h = omega (arith, front_below n xs ys size 0 p h, low p h)
-
-  pub front_steps : (arcs : List Arc) → AllLawful n arcs → Steps arcs ys → Steps arcs (ys ++ post_of 0 (n - 0) xs)
-  front_steps arcs lawful steps j h =
-      omega (arith, front_below n xs ys size 0 (arc_at arcs j).tail (lawful j h).tail_in, front_below n xs ys size 0 (arc_at arcs j).head (lawful j h).head_in, steps j h)
-
-  pub answered : (from : ℕ) (arcs : List Arc) (work : Columns) → Ready from n arcs xs work → (r : Result (Unit {0}) Refusal) → Measured from n arcs (take (n - 0) (drop 0 xs)) ys r → Answered from n arcs xs (ys ++ post_of 0 (n - 0) xs) work r
-  answered from arcs work ready (Ok u) m = (ready, λ p h. subst (λ (x : ℕ). LeastSum (flat n arcs) from p x) (sym (front_below n xs ys size 0 p h)) (m p h))
-  answered from arcs work ready (Err e) m =
-      (subst (Refused from n arcs xs work) (sym m.1) (apart m.0 ready m.2), ap (λ zs. zs ++ post_of 0 (n - 0) xs) m.3 ∙ take-append-drop (n - 0) xs)
-
-pub wiped_queue : (n k : ℕ) (es es' : List (Entry ℕ)) → length es' ≡ n → es' ≡ replicate n free_entry → k < n → get_or (es' ++ post_of 0 (n - 0) es) k free_entry ≡ free_entry 0
-wiped_queue n k es es' size e h = front_below n es es' size free_entry k h ∙ ap (λ zs. get_or zs k free_entry) e ∙ get_or-replicate n k free_entry free_entry h
+-- a working table that is wiped after its needed entries were written to
+pub wiped_after : (n m : ℕ) (work mid work' : Working) → SameFrom n work.ends.now mid.ends.now → SameFrom m work.order.now mid.order.now → SameFrom n work.sums.now mid.sums.now → ((k : ℕ) → n ≤ k → get_or mid.queue.now k free_entry ≡ get_or work.queue.now k free_entry) → Wiped n m mid work' → Wiped n m work work'
+wiped_after n m work mid work' ends order sums queue w = record {
+  ends = record { zero = w.ends.zero; beyond = λ k h. w.ends.beyond k h ∙ ends k h };
+  order = record { zero = w.order.zero; beyond = λ k h. w.order.beyond k h ∙ order k h };
+  sums = record { zero = w.sums.zero; beyond = λ k h. w.sums.beyond k h ∙ sums k h };
+  queue = w.queue;
+  queue_beyond = λ k h. w.queue_beyond k h ∙ queue k h;
+}

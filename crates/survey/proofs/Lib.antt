@@ -2,4 +2,5 @@ pub mod Chaining
 mod Relaxing
 mod Spreading
 mod Measuring
-pub mod Answering
+pub mod Judging
+mod Answering

@@ -1,15 +1,20 @@
 -- From sums to heights.
 use Rattle.std.proofs.Common.{◌≡◌, ℕ, List, length, get_or, Ok, Err, Result, sym, ap, subst, arith}
 use Rattle.arcs.specs.Tables.{AllLawful, arc_at}
-use Rattle.roads.specs.Heights.{LowHeights, Steps}
 use Rattle.survey.specs.Sums.{flat, LeastSum, Surveyed}
 use Rattle.survey.specs.Surveys.{HandedOver, Measured}
 use Rattle.terms.specs.declared.arc.Arc.{Arc}
 use Rattle.terms.specs.declared.refusal.Refusal.{Refusal}
 
-module _ (from n : ℕ) (arcs : List Arc) (sums heights heights' : List ℕ) (s : Surveyed (flat n arcs) from sums) (size : length sums ≡ n) where
+module _ (from n : ℕ) (arcs : List Arc) (lawful : AllLawful n arcs) (sums heights heights' : List ℕ) (s : Surveyed (flat n arcs) from sums) (size : length sums ≡ n) where
   pub measured : (r : Result (Unit {0}) Refusal) → HandedOver sums heights heights' r → Measured from n arcs heights heights' r
-  measured (Ok u) h = λ p k. subst (λ (xs : List ℕ). LeastSum (flat n arcs) from p (get_or xs p 0)) (sym h.1) (s.reached p k (h.0 p (omega arith)))
+  measured (Ok u) h = record {
+    least = λ p k. subst (λ (xs : List ℕ). LeastSum (flat n arcs) from p (get_or xs p 0)) (sym h.1) (s.reached p k (h.0 p (omega arith)));
+    low = λ p k. omega (arith, ap (λ xs. get_or xs p 0) h.1, s.low p k (h.0 p (omega arith)));
+    steps = λ j k.
+        let t = (arc_at arcs j).tail in
+        omega (arith, ap (λ xs. get_or xs t 0) h.1, ap (λ xs. get_or xs (arc_at arcs j).head 0) h.1, s.steps j k (h.0 t (omega (arith, (lawful j k).tail_in))));
+  }
   measured (Err e) h = (
     h.0,
     h.1,
@@ -20,11 +25,3 @@ module _ (from n : ℕ) (arcs : List Arc) (sums heights heights' : List ℕ) (s 
     },
     h.5,
   )
-
-  pub measured_low : HandedOver sums heights heights' (Ok tt) → LowHeights n heights'
-  measured_low h p k = omega (arith, ap (λ xs. get_or xs p 0) h.1, s.low p k (h.0 p (omega arith)))
-
-  pub measured_steps : AllLawful n arcs → HandedOver sums heights heights' (Ok tt) → Steps arcs heights'
-  measured_steps lawful h j k =
-      let t = (arc_at arcs j).tail in
-      omega (arith, ap (λ xs. get_or xs t 0) h.1, ap (λ xs. get_or xs (arc_at arcs j).head 0) h.1, s.steps j k (h.0 t (omega (arith, (lawful j k).tail_in))))

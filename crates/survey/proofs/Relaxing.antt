@@ -1,6 +1,6 @@
 -- One arc is relaxed.
-use Rattle.std.proofs.Common.{◌≡◌, ℕ, suc, ◌+◌, ◌*◌, ◌<◌, ◌≤◌, Bool, true, false, cond, eqb, ltb, List, [], ◌∷◌, ◌++◌, length, get_or, set, is_some, Some, None, Option, sym, refl, ap, ◌∙◌, subst, inl, inr, arith, length-set, get_or-set_other, get_or-set_same}
 use Rattle.std.specs.Ordering.{nat_cmp}
+use Rattle.std.proofs.Common.{◌≡◌, ℕ, suc, ◌+◌, ◌*◌, ◌<◌, ◌≤◌, Bool, true, false, cond, eqb, ltb, leb, List, [], ◌∷◌, ◌++◌, length, get_or, set, is_some, Some, None, Option, sym, refl, ap, ◌∙◌, subst, inl, inr, arith, length-set, get_or-set_other, get_or-set_same}
 use Rattle.ground.specs.Chains.{Chain, sum_of}
 use Rattle.ground.specs.KnownLaws.{not_both}
 use Rattle.ground.specs.Meanings.{Meaning}
@@ -32,39 +32,11 @@ reached_again sums i v l old new =
     let f : ℕ → ℕ = λ s. cond (ltb s far) 1 0 in
     omega (arith, sum_by-set f sums i v 0 l, cond-true {A = ℕ} (ltb v far) 1 0 (lt-ltb v far new), cond-true {A = ℕ} (ltb (get_or sums i 0) far) 1 0 (lt-ltb (get_or sums i 0) far old))
 
-pub set_lower : (xs : List ℕ) (i v : ℕ) → i < length xs → v ≤ get_or xs i 0 → (p : ℕ) → get_or (set xs i v) p 0 ≤ get_or xs p 0
-set_lower xs i v l h p =
-    elim (cases_eq p i) [
-      | inl e ↦ omega (arith, ap (λ z. get_or (set xs i v) z 0) e ∙ get_or-set_same xs i v 0 l, ap (λ z. get_or xs z 0) e)
-      | inr ne ↦ omega (arith, get_or-set_other xs i p v 0 ne)
-    ]
-
 held_few : (b : Bool) (n : ℕ) → cond b n (suc n) ≤ n + 1
 held_few true n = omega arith
 held_few false n = omega arith
 
 module _ (g : Meaning) (from : ℕ) (j : ℕ) (pending sums : List ℕ) (es : List (Entry ℕ)) (l : Labelled g from (j ∷ pending) sums es) where
-  -- the way over the arc is no shorter
-  pub relax_none : get_or sums (g.head j) 0 ≤ get_or sums (g.tail j) 0 + g.least j → Onward g from pending sums es sums es
-  relax_none h = record {
-    labelled = record {
-      size = l.size;
-      slots = l.slots;
-      top = l.top;
-      start = l.start;
-      chains = l.chains;
-      bound = l.bound;
-      relaxed = λ i k out near none. elim (cases_eq i j) [
-        | inl e ↦ subst (λ (z : ℕ). get_or sums (g.head z) 0 ≤ get_or sums (g.tail z) 0 + g.least z) (sym e) h
-        | inr ne ↦ l.relaxed i k (λ has. elim has [ inl e ↦ ne e | inr o ↦ out o ]) near none
-      ];
-      sound = l.sound;
-      low = l.low;
-      known = l.known;
-    };
-    lighter = omega arith;
-  }
-
   -- it is shorter: the head has a lower sum, and is queued
   module _ (es' : List (Entry ℕ)) (next : ℕ) (there : j < g.arcs) (tail_in : g.tail j < g.places) (head_in : g.head j < g.places) (least_high : g.least j ≤ 10000) (size' : length es' ≡ length es)
       (near : get_or sums (g.tail j) 0 < far) (is : next ≡ get_or sums (g.tail j) 0 + g.least j) (less : next < get_or sums (g.head j) 0) (t : TakenIn nat_cmp (g.head j) next es es') where

@@ -1,21 +1,21 @@
--- How a survey begins, takes up a place, and ends.
-use Rattle.std.proofs.Common.{◌≡◌, ℕ, zero, suc, ◌+◌, ◌*◌, ◌<◌, ◌≤◌, ltb, List, [], ◌∷◌, length, get_or, set, Some, None, sym, refl, ap, ◌∙◌, inl, inr, arith, length-set, get_or-set_other, get_or-set_same}
+-- How a survey takes up a place, and ends.
 use Rattle.std.specs.Ordering.{nat_cmp}
+use Rattle.std.proofs.Common.{◌≡◌, ℕ, zero, suc, ◌+◌, ◌*◌, ◌<◌, ◌≤◌, ltb, leb, List, [], ◌∷◌, length, get_or, Some, None, sym, refl, ap, ◌∙◌, inl, inr, arith}
 use Rattle.ground.proofs.ArcsAt.{arcs_at-has}
 use Rattle.ground.specs.Chains.{Chain, sum_of}
 use Rattle.ground.specs.KnownLaws.{not_both}
 use Rattle.ground.specs.Meanings.{Meaning}
 use Rattle.ground.specs.Questions.{arcs_at}
-use Rattle.queue.specs.Calls.{Empty, Freed, Leads, TakenIn}
+use Rattle.queue.specs.Calls.{Freed, Leads}
 use Rattle.queue.specs.Content.{key_of}
 use Rattle.queue.specs.declared.entry.Entry.{Entry}
 use Rattle.std.proofs.lemmas.List.Sums.{count_by-le-length}
-use Rattle.std.proofs.lemmas.Bool.{cases_eq, cases_lt}
+use Rattle.std.proofs.lemmas.Bool.{cases_eq}
 use Rattle.std.specs.List.{slice_get}
 use Rattle.survey.specs.Labels.{In, Labelled, reached}
 use Rattle.survey.specs.Sums.{Surveyed}
 use Rattle.survey.proofs.Chaining.{chain_falls}
-use Rattle.survey.proofs.Relaxing.{changed_same, changed_other, reached_new}
+use Rattle.survey.proofs.Relaxing.{changed_same, changed_other}
 use Rattle.terms.specs.Amounts.{far}
 
 nth_in : (xs : List ℕ) (k x : ℕ) → slice_get xs k ≡ Some x → In x xs
@@ -70,30 +70,3 @@ module _ (g : Meaning) (from : ℕ) where
       low = λ p h near. omega (arith, l.bound p h near, few_reached [] sums es l);
       steps = λ j h near. (step j h near).0;
     }
-
-  -- every place is far but the one to survey from, which is queued
-  pub begun : (sums : List ℕ) (es es' : List (Entry ℕ)) → length sums ≡ g.places → from < g.places → ((j : ℕ) → j < g.arcs → g.tail j < g.places) → ((p : ℕ) → p < length sums → get_or sums p 0 ≡ far) → ((p : ℕ) → length sums ≤ p → get_or sums p 0 ≡ 0) → Empty nat_cmp es → length es' ≡ g.places → TakenIn nat_cmp from 0 es es' → Labelled g from [] (set sums from 0) es'
-  begun sums es es' size h tail_in all past empty slots t = record {
-    size = length-set sums from 0 ∙ size;
-    slots = slots;
-    top = λ p. elim (cases_eq p from) [ inl e ↦ omega (arith, here p e) | inr ne ↦ omega (arith, other p ne, top_was p) ];
-    start = here from refl;
-    chains = λ p k near. elim (cases_eq p from) [ inl e ↦ ([], (h, sym e), sym (here p e)) | inr ne ↦ absurd (omega (arith, other p ne, all p (omega arith))) ];
-    bound = λ p k near. elim (cases_eq p from) [ inl e ↦ omega (arith, here p e, reached_new sums from 0 (omega arith) (omega (arith, all from (omega arith))) (omega arith)) | inr ne ↦ absurd (omega (arith, other p ne, all p (omega arith))) ];
-    relaxed = λ j k out near no. elim (cases_eq (g.tail j) from) [
-      | inl e ↦ absurd (not_both (key_of es' (g.tail j)) 0 (ap (key_of es') e ∙ changed_same es es' from (Some 0) t.content) no)
-      | inr ne ↦ absurd (omega (arith, other (g.tail j) ne, all (g.tail j) (omega (arith, tail_in j k))))
-    ];
-    sound = t.sound;
-    low = λ m v e. elim (cases_eq m from) [ inl i ↦ omega arith | inr ne ↦ absurd (not_both (key_of es' m) v e (changed_other es es' from (Some 0) t.content m ne ∙ empty.content m)) ];
-    known = λ m v e. elim (cases_eq m from) [ inl i ↦ omega (arith, here m i) | inr ne ↦ absurd (not_both (key_of es' m) v e (changed_other es es' from (Some 0) t.content m ne ∙ empty.content m)) ];
-  }
-    where
-      here : (p : ℕ) → p ≡ from → get_or (set sums from 0) p 0 ≡ 0
-      here p e = ap (λ z. get_or (set sums from 0) z 0) e ∙ get_or-set_same sums from 0 0 (omega arith)
-
-      other : (p : ℕ) → (p ≡ from → ⊥) → get_or (set sums from 0) p 0 ≡ get_or sums p 0
-      other p ne = get_or-set_other sums from p 0 0 ne
-
-      top_was : (p : ℕ) → get_or sums p 0 ≤ far
-      top_was p = elim (cases_lt p (length sums)) [ inl k ↦ omega (arith, all p k) | inr k ↦ omega (arith, past p k) ]

@@ -1,6 +1,6 @@
 -- The state of a survey under way. Assumes nothing.
-use Rattle.std.specs.Prelude.{◌≡◌, ℕ, ◌+◌, ◌*◌, ◌<◌, ◌≤◌, ◌⊎◌, List, [], ◌∷◌, length, Some, None, sum, count_by, nat_lt, slice_index, slice_index_or}
 use Rattle.std.specs.Ordering.{nat_cmp}
+use Rattle.std.specs.Prelude.{◌≡◌, ℕ, ◌+◌, ◌*◌, ◌<◌, ◌≤◌, ◌⊎◌, List, [], ◌∷◌, length, Some, None, sum, count_by, nat_lt, slice_index, slice_index_or}
 use Rattle.ground.specs.Chains.{Chain, sum_of}
 use Rattle.ground.specs.Meanings.{Meaning}
 use Rattle.queue.specs.Calls.{Low}

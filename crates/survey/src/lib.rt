@@ -1,6 +1,8 @@
 // Survey: how far every place is from one of them.
 #![tactic(auto)]
 
+mod labels;
 mod measure;
-mod spread;
 pub mod survey;
+mod task;
+pub mod working;
