@@ -1,7 +1,7 @@
 // A whole past of a plan: calls on one ground, then on another, with one plan throughout.
 ghost use Rattle.std.specs.Prelude.{⊤};
 
-use crate::roads_calls::{Strip, copy};
+use crate::roads_calls::{Strip, take_over};
 use grid::grid::Grid;
 use ground::ground::Ground;
 use pickup::pickup::Pickup;
@@ -246,7 +246,9 @@ pub extern "C" fn plan_run(
         head: 0,
         least: 0,
     }; ARCS];
-    copy(strips, &mut table);
+    take_over(strips, &mut table);
+    let mut queue = [Entry::free(); PLACES];
+    leave_keys(&mut queue, anything);
     let mut desk = Desk {
         plan: Plan::new(),
         places: [Place {
@@ -254,13 +256,12 @@ pub extern "C" fn plan_run(
             rhs: anything.wrapping_mul(31),
             closed: anything % 2 == 0,
         }; PLACES],
-        queue: [Entry::free(); PLACES],
+        queue,
         costs,
         listed,
         list,
         taken: 0,
     };
-    leave_keys(&mut desk.queue, anything);
     for stretch in stretches {
         let to = (stretch.asks_to as usize).min(answers.len());
         let from = (stretch.asks_from as usize).min(to);

@@ -1,4 +1,6 @@
 // Calls of the queue, one after another.
+ghost use Rattle.std.specs.Prelude.{⊤};
+
 use queue::entry::Entry;
 use queue::key::Key;
 use queue::queue::Queue;
@@ -23,24 +25,30 @@ pub struct Answer {
     pub second: u32,
 }
 
-fn coded(code: u32) -> Answer {
-    Answer {
-        code,
-        number: 0,
-        first: 0,
-        second: 0,
+impl Answer {
+    fn of_code(code: u32) -> Answer {
+        Answer {
+            code,
+            number: 0,
+            first: 0,
+            second: 0,
+        }
     }
 }
 
-fn given(item: Option<(u32, Key)>) -> Answer {
-    match item {
-        Some((number, key)) => Answer {
-            code: 1,
-            number,
-            first: key.first,
-            second: key.second,
-        },
-        None => coded(0),
+impl From<Option<(u32, Key)>> for Answer {
+    ghost from_gives = { λ _ _. ⊤ };
+
+    fn from(item: Option<(u32, Key)>) -> Answer {
+        match item {
+            Some((number, key)) => Answer {
+                code: 1,
+                number,
+                first: key.first,
+                second: key.second,
+            },
+            None => Answer::of_code(0),
+        }
     }
 }
 
@@ -49,17 +57,15 @@ fn carry_out(q: &mut Queue<Key>, s: &Step) -> Answer {
         first: s.first,
         second: s.second,
     };
+    // The kinds are numbers, since Rust hands them over.
     match s.kind {
-        0 => match q.put(s.number, key) {
-            Ok(()) => coded(0),
-            Err(refusal) => coded(refusal.number()),
-        },
-        1 => match q.withdraw(s.number) {
-            Some(key) => given(Some((s.number, key))),
-            None => coded(0),
-        },
-        2 => given(q.smallest()),
-        _ => given(q.take_smallest()),
+        0 => Answer::of_code(
+            q.put(s.number, key)
+                .map_or_else(|refusal| refusal.number(), |_| 0),
+        ),
+        1 => Answer::from(q.withdraw(s.number).map(|key| (s.number, key))),
+        2 => Answer::from(q.smallest()),
+        _ => Answer::from(q.take_smallest()),
     }
 }
 

@@ -1,8 +1,13 @@
 // Survey and Load on tables of arcs.
+ghost use Rattle.std.specs.Prelude.{⊤};
+
+use ground::around::Around;
+use ground::end::End;
 use ground::ground::Ground;
 use queue::entry::Entry;
 use roads::roads::Roads;
 use survey::survey::survey;
+use survey::working::Working;
 use terms::arc::Arc;
 use terms::refusal::Refusal;
 
@@ -41,13 +46,34 @@ fn told(number: u64, value: usize) -> u64 {
     (value as u64).wrapping_mul(1 << 32).wrapping_add(number)
 }
 
-pub(crate) fn copy(strips: &[Strip], table: &mut [Arc]) {
-    for (s, a) in strips.iter().zip(table.iter_mut()) {
-        *a = Arc {
+impl From<&Strip> for Arc {
+    ghost from_gives = { λ _ _. ⊤ };
+
+    fn from(s: &Strip) -> Arc {
+        Arc {
             tail: s.tail,
             head: s.head,
             least: s.least,
-        };
+        }
+    }
+}
+
+// Takes strips over into the front of a table.
+pub(crate) fn take_over(strips: &[Strip], table: &mut [Arc]) {
+    for (arc, strip) in table.iter_mut().zip(strips) {
+        *arc = Arc::from(strip);
+    }
+}
+
+// Writes the arcs that have an end at each place, in order, one place after the other, as far as the list goes.
+fn list_arcs<G: Ground>(ground: &G, places: u32, end: End, list: &mut [u32]) {
+    let mut slots = list.iter_mut();
+    for place in 0..places {
+        for arc in Around::new(ground, place, end) {
+            if let Some(slot) = slots.next() {
+                *slot = arc;
+            }
+        }
     }
 }
 
@@ -60,23 +86,20 @@ pub extern "C" fn roads_survey(
     heights: &mut [u32],
 ) -> u64 {
     let mut table = [NONE; ARCS];
-    copy(strips, &mut table);
+    take_over(strips, &mut table);
     let mut ends = [0u32; PLACES];
     let mut order = [0u32; ARCS];
     let mut sums = [0u32; PLACES];
     let mut entries = [Entry::free(); PLACES];
     let m = strips.len().min(ARCS);
     let arcs = &table[0..m];
-    coded(survey(
-        from,
-        places,
-        arcs,
-        heights,
-        &mut ends,
-        &mut order,
-        &mut sums,
-        &mut entries,
-    ))
+    let mut work = Working {
+        ends: &mut ends,
+        order: &mut order,
+        sums: &mut sums,
+        queue: &mut entries,
+    };
+    coded(survey(from, places, arcs, heights, &mut work))
 }
 
 // Loads roads, and writes the arcs that leave and enter each place, in order, one place after the other.
@@ -89,7 +112,7 @@ pub extern "C" fn roads_load(
     entered: &mut [u32],
 ) -> u64 {
     let mut table = [NONE; ARCS];
-    copy(strips, &mut table);
+    take_over(strips, &mut table);
     let mut own = [0u32; PLACES];
     let mut leaving = [0u32; PLACES];
     let mut leavers = [0u32; ARCS];
@@ -105,25 +128,7 @@ pub extern "C" fn roads_load(
         &mut enterers,
     );
     let answer = roads.load(places, arcs, heights);
-    let mut at = 0;
-    let mut into = 0;
-    for place in 0..places {
-        for k in 0..roads.leaving_count(place) {
-            if let Some(arc) = roads.leaving(place, k) {
-                if at < left.len() {
-                    left[at] = arc;
-                    at += 1;
-                }
-            }
-        }
-        for k in 0..roads.entering_count(place) {
-            if let Some(arc) = roads.entering(place, k) {
-                if into < entered.len() {
-                    entered[into] = arc;
-                    into += 1;
-                }
-            }
-        }
-    }
+    list_arcs(&roads, places, End::Tail, left);
+    list_arcs(&roads, places, End::Head, entered);
     coded(answer)
 }

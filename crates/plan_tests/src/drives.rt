@@ -7,6 +7,7 @@ use queue::entry::Entry;
 use roads::roads::Roads;
 use std::test::Fail;
 use survey::survey::survey;
+use survey::working::Working;
 use terms::arc::Arc;
 
 #[test]
@@ -44,10 +45,12 @@ fn in_the_town(rt: HostRuntime) -> Result<(), Fail> {
         4,
         &arcs,
         &mut heights,
-        &mut [0; 4],
-        &mut [0; 4],
-        &mut [0; 4],
-        &mut [Entry::free(); 4],
+        &mut Working {
+            ends: &mut [0; 4],
+            order: &mut [0; 4],
+            sums: &mut [0; 4],
+            queue: &mut [Entry::free(); 4],
+        },
     )?;
     assert_eq!(rt; heights, [0, 4, 2, 9]);
     let mut own = [0; 4];
