@@ -64,6 +64,7 @@ module _ (g : Meaning) (from : ℕ) where
 
     pub all_least : Surveyed g from sums
     all_least = record {
+      size = l.size;
       reached = λ p h near. let w = l.chains p h near in record { chain = w.0; joins = w.1; sum = w.2; least = λ js c. (falls js p c).0 };
       apart = λ p h beyond js c. omega (arith, (falls js p c).1);
       low = λ p h near. omega (arith, l.bound p h near, few_reached [] sums es l);
