@@ -1,13 +1,16 @@
 -- The function for least sums finds what the chains say.
-use Rattle.std.proofs.Common.{◌≡◌, ℕ, zero, suc, ◌+◌, ◌-◌, ◌<◌, ◌≤◌, Bool, true, false, ◌&&◌, eqb, leb, List, [], ◌∷◌, ◌++◌, length, Some, None, sym, refl, subst, inl, inr, arith}
+use Rattle.std.proofs.Common.{◌≡◌, ℕ, zero, suc, ◌+◌, ◌-◌, ◌<◌, ◌≤◌, Bool, true, false, ◌&&◌, eqb, leb, List, [], ◌∷◌, ◌++◌, length, Some, None, sym, refl, ap, ◌∙◌, subst, inl, inr, arith}
 use Rattle.arcs.specs.Tables.{AllLawful, arc_at}
 use Rattle.ground.proofs.ArcsAt.{arcs_at-at, arcs_at-has}
 use Rattle.ground.specs.Chains.{Chain, sum_of}
 use Rattle.ground.specs.Meanings.{Meaning}
 use Rattle.ground.specs.Questions.{arcs_into}
-use Rattle.heights.proofs.Searching.{first_at, first_least, first_none, some_at, some_has}
-use Rattle.heights.specs.LeastSums.{LeastSumLaw, least_sum, some_of, sums_to}
+use Rattle.heights.proofs.Searching.{first_at, first_least, first_none, some_at}
+use Rattle.heights.specs.LeastSums.{LeastSumLaw, least_sum, sums_to}
 use Rattle.std.proofs.lemmas.Bool.{and_from, and_parts, both_ways, cases_Bool, cases_lt, eq-eqb, eqb-true, le-leb, leb-true, or_cases, or_left, or_right}
+use Rattle.std.proofs.lemmas.List.Folds.{list_any_at}
+use Rattle.std.proofs.lemmas.Option.{get_or_from_slice_get}
+use Rattle.std.specs.List.{list_any}
 use Rattle.survey.proofs.Chaining.{chain_more, sum_more}
 use Rattle.survey.specs.Sums.{flat, Apart, LeastSum}
 use Rattle.terms.specs.declared.arc.Arc.{Arc}
@@ -29,7 +32,7 @@ module _ (g : Meaning) (from : ℕ) where
     pub sound : (k v p : ℕ) → sums_to g from k v p ≡ true → Sums v p
     unfolding sums_to
     sound zero v p e = none start v p e
-    sound (suc k) v p e = elim (or_cases (eqb v 0 && eqb p from) (some_of last (arcs_into g p)) e) [
+    sound (suc k) v p e = elim (or_cases (eqb v 0 && eqb p from) (list_any last (arcs_into g p)) e) [
       | inl h ↦ none start v p h
       | inr h ↦ let r = some_at last (arcs_into g p) h in
           let j = r.1 in
@@ -52,7 +55,7 @@ module _ (g : Meaning) (from : ℕ) where
         let e : v ≡ v + g.least j - g.least j = omega arith in
         let low : leb (g.least j) (v + g.least j) ≡ true = le-leb (g.least j) (v + g.least j) (omega arith) in
         let before : sums_to g from k (v + g.least j - g.least j) (g.tail j) ≡ true = subst (λ (w : ℕ). sums_to g from k w (g.tail j) ≡ true) e (f k (omega (arith, costly j h))) in
-        or_right (eqb (v + g.least j) 0 && eqb (g.head j) from) (some_of last (arcs_into g (g.head j))) (some_has last (arcs_into g (g.head j)) has.0 j has.2 (and_from (leb (g.least j) (v + g.least j)) (sums_to g from k (v + g.least j - g.least j) (g.tail j)) low before))
+        or_right (eqb (v + g.least j) 0 && eqb (g.head j) from) (list_any last (arcs_into g (g.head j))) (list_any_at last (arcs_into g (g.head j)) has.0 0 has.1 (ap last (get_or_from_slice_get (arcs_into g (g.head j)) has.0 j 0 has.2) ∙ and_from (leb (g.least j) (v + g.least j)) (sums_to g from k (v + g.least j - g.least j) (g.tail j)) low before))
       where
         last : ℕ → Bool
         last i = leb (g.least i) (v + g.least j) && sums_to g from k (v + g.least j - g.least i) (g.tail i)
@@ -127,7 +130,7 @@ module _ (n : ℕ) (arcs : List Arc) (from : ℕ) (lawful : AllLawful n arcs) (a
   outside : (k v p : ℕ) → p < n → sums_to (flat n arcs) from k v p ≡ true → ⊥
   unfolding sums_to
   outside zero v p h e = omega (arith, eqb-true p from (and_parts (eqb v 0) (eqb p from) e).1)
-  outside (suc k) v p h e = elim (or_cases (eqb v 0 && eqb p from) (some_of last (arcs_into (flat n arcs) p)) e) [
+  outside (suc k) v p h e = elim (or_cases (eqb v 0 && eqb p from) (list_any last (arcs_into (flat n arcs) p)) e) [
     | inl l ↦ omega (arith, eqb-true p from (and_parts (eqb v 0) (eqb p from) l).1)
     | inr l ↦ let r = some_at last (arcs_into (flat n arcs) p) l in
         let a = arcs_at-at (flat n arcs).head (length arcs) p r.0 r.1 r.2 in

@@ -1,16 +1,18 @@
 -- One arc is relaxed.
 use Rattle.std.specs.Ordering.{nat_cmp}
-use Rattle.std.proofs.Common.{◌≡◌, ℕ, suc, ◌+◌, ◌*◌, ◌<◌, ◌≤◌, Bool, true, false, cond, eqb, ltb, leb, List, [], ◌∷◌, ◌++◌, length, get_or, set, is_some, Some, None, Option, sym, refl, ap, ◌∙◌, subst, inl, inr, arith, length-set, get_or-set_other, get_or-set_same}
+use Rattle.std.proofs.Common.{◌≡◌, ℕ, suc, ◌+◌, ◌*◌, ◌<◌, ◌≤◌, Bool, true, false, cond, eqb, ltb, List, [], ◌∷◌, ◌++◌, length, get_or, set, is_some, Some, None, Option, sym, refl, ap, ◌∙◌, subst, inl, inr, arith, length-set, get_or-set_other, get_or-set_same}
 use Rattle.ground.specs.Chains.{Chain, sum_of}
 use Rattle.ground.specs.KnownLaws.{not_both}
 use Rattle.ground.specs.Meanings.{Meaning}
 use Rattle.queue.specs.Calls.{TakenIn, Changed}
 use Rattle.queue.specs.Content.{key_of, held}
 use Rattle.queue.specs.declared.entry.Entry.{Entry}
+use Rattle.std.proofs.lemmas.Map.Made.{Contains-tail}
+use Rattle.std.specs.List.{Contains}
 use Rattle.std.proofs.lemmas.Map.{update_same, update_other}
 use Rattle.std.proofs.lemmas.List.Sums.{sum_by-set}
 use Rattle.std.proofs.lemmas.Bool.{cases_eq, cases_lt, eq-eqb, ne_eqb, lt-ltb, le-ltb, cond-true, cond-false}
-use Rattle.survey.specs.Labels.{In, Labelled, Onward, reached}
+use Rattle.survey.specs.Labels.{Labelled, Onward, reached}
 use Rattle.survey.proofs.Chaining.{chain_more, sum_more}
 use Rattle.terms.specs.Amounts.{far}
 
@@ -76,13 +78,13 @@ module _ (g : Meaning) (from : ℕ) (j : ℕ) (pending sums : List ℕ) (es : Li
           | inr ne ↦ omega (arith, room, as_was p ne, l.bound p h (omega (arith, as_was p ne)))
         ]
 
-    relaxed' : (i : ℕ) → i < g.arcs → (In i pending → ⊥) → get_or (set sums (g.head j) next) (g.tail i) 0 < far → key_of es' (g.tail i) ≡ None → get_or (set sums (g.head j) next) (g.head i) 0 ≤ get_or (set sums (g.head j) next) (g.tail i) 0 + g.least i
+    relaxed' : (i : ℕ) → i < g.arcs → (Contains pending i → ⊥) → get_or (set sums (g.head j) next) (g.tail i) 0 < far → key_of es' (g.tail i) ≡ None → get_or (set sums (g.head j) next) (g.head i) 0 ≤ get_or (set sums (g.head j) next) (g.tail i) 0 + g.least i
     relaxed' i k out nearby none =
         let apart : g.tail i ≡ g.head j → ⊥ = λ e. not_both (key_of es' (g.tail i)) next (ap (key_of es') e ∙ changed_same es es' (g.head j) (Some next) t.content) none in
         let was = as_was (g.tail i) apart in
         elim (cases_eq i j) [
           | inl e ↦ omega (arith, was, now_at (g.head i) (ap g.head e), ap (λ z. get_or sums (g.tail z) 0) e, ap g.least e)
-          | inr ne ↦ omega (arith, was, lower (g.head i), l.relaxed i k (λ has. elim has [ inl e ↦ ne e | inr o ↦ out o ]) (omega (arith, was)) (sym (changed_other es es' (g.head j) (Some next) t.content (g.tail i) apart) ∙ none))
+          | inr ne ↦ omega (arith, was, lower (g.head i), l.relaxed i k (λ has. out (Contains-tail j pending i (λ e. ne (sym e)) has)) (omega (arith, was)) (sym (changed_other es es' (g.head j) (Some next) t.content (g.tail i) apart) ∙ none))
         ]
 
     pub relax_lower : Onward g from pending sums es (set sums (g.head j) next) es'

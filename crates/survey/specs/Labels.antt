@@ -1,6 +1,6 @@
 -- The state of a survey under way. Assumes nothing.
 use Rattle.std.specs.Ordering.{nat_cmp}
-use Rattle.std.specs.Prelude.{◌≡◌, ℕ, ◌+◌, ◌*◌, ◌<◌, ◌≤◌, ◌⊎◌, List, [], ◌∷◌, length, Some, None, sum, count_by, nat_lt, slice_index, slice_index_or}
+use Rattle.std.specs.Prelude.{◌≡◌, ℕ, ◌+◌, ◌*◌, ◌<◌, ◌≤◌, List, Contains, length, Some, None, sum, count_by, nat_lt, slice_index, slice_index_or}
 use Rattle.ground.specs.Chains.{Chain, sum_of}
 use Rattle.ground.specs.Meanings.{Meaning}
 use Rattle.queue.specs.Calls.{Low}
@@ -8,11 +8,6 @@ use Rattle.queue.specs.Content.{key_of, held}
 use Rattle.queue.specs.Sound.{Sound}
 use Rattle.queue.specs.declared.entry.Entry.{Entry}
 use Rattle.terms.specs.Amounts.{far}
-
--- a number is one of the list
-abbrev pub In : ℕ → List ℕ → Type 0
-In x [] = ⊥
-In x (y ∷ ys) = (x ≡ y) ⊎ In x ys
 
 -- how many places have a sum
 abbrev pub reached : List ℕ → ℕ
@@ -30,7 +25,7 @@ pub record Labelled (g : Meaning) (from : ℕ) (pending : List ℕ) (sums : List
   pub start : slice_index_or sums from 0 ≡ 0
   pub chains : (p : ℕ) → p < g.places → slice_index sums p < far → (js : List ℕ) × Chain g from js p × (sum_of g.least js ≡ slice_index sums p)
   pub bound : (p : ℕ) → p < g.places → slice_index sums p < far → slice_index sums p + 10000 ≤ 10000 * reached sums
-  pub relaxed : (j : ℕ) → j < g.arcs → (In j pending → ⊥) → slice_index sums (g.tail j) < far → key_of es (g.tail j) ≡ None → slice_index sums (g.head j) ≤ slice_index sums (g.tail j) + g.least j
+  pub relaxed : (j : ℕ) → j < g.arcs → ¬ Contains pending j → slice_index sums (g.tail j) < far → key_of es (g.tail j) ≡ None → slice_index sums (g.head j) ≤ slice_index sums (g.tail j) + g.least j
   pub sound : Sound nat_cmp es
   pub low : Low es
   pub known : (p k : ℕ) → key_of es p ≡ Some k → slice_index sums p < far

@@ -1,5 +1,5 @@
 -- Least sums over the chains of a table of arcs. Assumes nothing.
-use Rattle.std.specs.Prelude.{◌≡◌, ℕ, ◌+◌, ◌<◌, ◌≤◌, List, [], slice_index}
+use Rattle.std.specs.Prelude.{◌≡◌, ℕ, ◌+◌, ◌<◌, ◌≤◌, List, [], length, slice_index}
 use Rattle.ground.specs.Chains.{Chain, sum_of}
 use Rattle.ground.specs.Meanings.{Meaning}
 use Rattle.roads.specs.Heights.{roads_meaning}
@@ -21,8 +21,9 @@ pub record LeastSum (g : Meaning) (from to x : ℕ) : Type 0 where
 abbrev pub Apart : Meaning → ℕ → ℕ → Type 0
 Apart g from to = (js : List ℕ) → Chain g from js to → ⊥
 
--- the sums tell, for each place, the least sum or that there is no chain; and no arc leads to a lower sum
+-- the sums, one for each place, tell the least sum or that there is no chain; and no arc leads to a lower sum
 pub record Surveyed (g : Meaning) (from : ℕ) (sums : List ℕ) : Type 0 where
+  pub size : length sums ≡ g.places
   pub reached : (p : ℕ) → p < g.places → slice_index sums p < far → LeastSum g from p (slice_index sums p)
   pub apart : (p : ℕ) → p < g.places → far ≤ slice_index sums p → Apart g from p
   pub low : (p : ℕ) → p < g.places → slice_index sums p < far → slice_index sums p ≤ 163830000

@@ -44,7 +44,6 @@ impl<'t> Labels<'t> {
         requires size { length self.old.sums.now ≡ task.now.net.places }
         ensures falls { (p : ℕ) → slice_index self.new.sums.now p ≤ slice_index self.old.sums.now p }
         ensures done { (pending : List ℕ) → Underway task.now (j ∷ pending) self.old → slice_index self.old.sums.now (arc_at task.now.net.arcs.now j).tail < far → Advanced task.now pending self.old self.new }
-        ensures size { length self.new.sums.now ≡ length self.old.sums.now }
     {
         let arc = task.net.arcs[j as usize];
         let next = capped_sum(self.sums[arc.tail as usize], arc.least);
@@ -56,9 +55,9 @@ impl<'t> Labels<'t> {
 
     // Relaxes every arc that leaves a place.
     fn settle(&mut self, task: &Task, place: u32)
-        requires { length self.old.sums.now ≡ task.now.net.places }
-        ensures done { Underway task.now (arcs_from (ground_of task.now) place) self.old → slice_index self.old.sums.now place < far → Advanced task.now [] self.old self.new }
-        ensures size { length self.new.sums.now ≡ length self.old.sums.now }
+        requires underway { Underway task.now (arcs_from (ground_of task.now) place) self.old }
+        requires near { slice_index self.old.sums.now place < far }
+        ensures { Advanced task.now [] self.old self.new }
     {
         for j in task.leaving.at(place as usize) {
             self.relax(task, *j);
@@ -67,8 +66,7 @@ impl<'t> Labels<'t> {
 
     // Takes up the queued place with the least sum.
     fn take_up(&mut self) -> Option<u32>
-        ensures taken { (task : Task) → TakenUp task self.old self.new result }
-        ensures size { length self.new.sums.now ≡ length self.old.sums.now }
+        ensures { (task : Task) → TakenUp task self.old self.new result }
     {
         let (place, _) = self.queue.take_smallest()?;
         Some(place)
@@ -77,8 +75,7 @@ impl<'t> Labels<'t> {
     // Goes on until no place is queued: every sum is then the least, or Far where no chain leads.
     pub(crate) fn spread(&mut self, task: &Task)
         requires { Underway task.now [] self.old }
-        ensures done { Surveyed (ground_of task.now) task.now.from self.new.sums.now }
-        ensures size { length self.new.sums.now ≡ length self.old.sums.now }
+        ensures { Surveyed (ground_of task.now) task.now.from self.new.sums.now }
     {
         while let Some(place) = self.take_up() {
             self.settle(task, place);

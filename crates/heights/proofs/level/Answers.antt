@@ -1,41 +1,21 @@
-use Rattle.std.proofs.Common.{◌≤◌, length, sym, refl, ◌∙◌, arith}
-use Rattle.heights.proofs.Levelling.{low_accepted, measured, refused_zero, zeros_accepted}
-use Rattle.survey.specs.Surveys.{columns}
+use Rattle.std.proofs.Common.{length, sym, ◌∙◌, arith}
+use Rattle.heights.proofs.Levelling.{answered_err, answered_ok, low_accepted, measured, refused_zero}
 use Rattle.heights.proofs.level.Goals as goal
 
-pub returns-in_default : goal.returns-in_default
-returns-in_default c =
-    let s = c.in_default.ensures in
-    let ready = s.answer.0 in
-    let n = c.args.places in
-    let arcs = c.args.arcs.now in
-    let hs = c.survey.new.heights in
-    let room : n ≤ length hs = omega (arith, ready.fits.given, c.survey.auto.heights) in
+pub returns-then-is_err-clause-level : goal.returns-then-is_err-clause-level
+returns-then-is_err-clause-level c =
+    let r = answered_err _ _ _ _ _ _ c.survey.result (sym c.if-is_err.ensures.value) c.survey.ensures.answer in
     record {
-      level = record {
-        measured = λ _ _ _. measured (length c.args.heights.now) n arcs c.args.from ready.lawful ready.there hs ready.fits.given (low_accepted n arcs hs c.args.order.now room ready.fits.order (s.law refl)) s.answer.1;
-        declined = λ away. absurd (away ready);
-      };
-      beyond = s.beyond;
-      accepted = λ _ _. s.law refl;
-      wiped = s.wiped;
-      kept = s.kept;
+      measured = λ fits lawful small p h. c.clear.ensures.zero p h ∙ sym (refused_zero _ _ _ _ _ r.0 r.1 fits lawful small p h);
+      declined = λ _. c.clear.ensures.zero;
     }
 
-pub returns : goal.returns
-returns c =
-    let s = c.in-Err.ensures in
-    let n = c.args.places in
-    let arcs = c.args.arcs.now in
-    let hs = c.clear.new.heights in
-    let work = columns c.args.ends.now c.args.order.now c.args.sums.now c.args.queue.now in
+pub returns-else-is_err-clause-level : goal.returns-else-is_err-clause-level
+returns-else-is_err-clause-level c =
+    let r = answered_ok _ _ _ _ _ _ c.survey.result (sym c.if-is_err.ensures.value) c.survey.ensures.answer c.survey.ensures.law in
+    let ready = r.0 in
+    let hs = c.survey.new.heights in
     record {
-      level = record {
-        measured = λ fits lawful small p h. c.clear.ensures.zero p h ∙ sym (refused_zero c.args.from n arcs c.args.heights.now work c.in-Err.field-0 s.answer.0 fits lawful small p h);
-        declined = λ _. c.clear.ensures.zero;
-      };
-      beyond = λ k h. c.clear.ensures.beyond k h ∙ s.beyond k h;
-      accepted = zeros_accepted n arcs hs c.clear.ensures.zero;
-      wiped = s.wiped;
-      kept = s.kept;
+      measured = λ _ _ _. measured (length c.args.heights.now) c.args.places c.args.arcs.now c.args.from ready.lawful ready.there hs ready.fits.given (low_accepted c.args.places c.args.arcs.now hs c.args.work.now.order.now (omega (arith, ready.fits.given)) ready.fits.room.order r.2) r.1;
+      declined = λ away. absurd (away ready);
     }

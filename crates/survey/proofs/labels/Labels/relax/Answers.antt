@@ -1,5 +1,5 @@
 use Rattle.std.specs.Ordering.{nat_cmp}
-use Rattle.std.proofs.Common.{leb, Result, subst, arith}
+use Rattle.std.proofs.Common.{Result, subst, arith}
 use Rattle.queue.specs.Calls.{PutDone}
 use Rattle.survey.specs.Underway.{ground_of}
 use Rattle.survey.proofs.Relaxing.{relax_lower}

@@ -24,12 +24,10 @@ loop-j-preserved c =
     let has = slice_get-get_or items i 0 c.loop-j-test.true in
     let w = arcs_at-at g.tail g.arcs c.args.place i (get_or items i 0) (ap (λ xs. slice_get xs i) (sym (c.at-j-items.ensures.list ∙ task.indexed c.args.place)) ∙ has) in
     let next : drop i items ≡ get_or items i 0 ∷ drop (i + 1) items = rw (add-one) (drop-cons items i 0 c.loop-j-test.true) in
+    let o = c.loop-j.invariant.onward in
+    let before = subst (λ (xs : List ℕ). Labelled g task.from xs l.sums.now l.queue.entries.now) next o.labelled in
+    let r = c.relax.ensures.done (drop (i + 1) items) before (omega (arith, c.requires.near, c.loop-j.invariant.falls c.args.place, ap (λ p. get_or l.sums.now p 0) w.1)) in
     record {
       falls = λ p. omega (arith, c.relax.ensures.falls p, c.loop-j.invariant.falls p);
-      done = λ u near.
-          let o = c.loop-j.invariant.done u near in
-          let before = subst (λ (xs : List ℕ). Labelled g task.from xs l.sums.now l.queue.entries.now) next o.labelled in
-          let r = c.relax.ensures.done (drop (i + 1) items) before (omega (arith, c.loop-j.invariant.falls c.args.place, ap (λ p. get_or l.sums.now p 0) w.1)) in
-          record { labelled = r.labelled; lighter = omega (arith, o.lighter, r.lighter) };
-      size = c.relax.ensures.size ∙ c.loop-j.invariant.size;
+      onward = record { labelled = r.labelled; lighter = omega (arith, o.lighter, r.lighter) };
     }
