@@ -2,7 +2,7 @@
 use Rattle.std.specs.Prelude.{◌≡◌, ℕ, ◌≤◌, List, [], length, nat_lt, if◌then◌else◌, slice_index, slice_range}
 use Rattle.arcs.specs.Index.{start_in}
 use Rattle.arcs.specs.Nets.{arcs_by}
-use Rattle.arcs.specs.declared.end.End.{End}
+use Rattle.ground.specs.declared.end.End.{End}
 use Rattle.arcs.specs.declared.index.Index.{Index}
 use Rattle.arcs.specs.declared.net.Net.{Net}
 

@@ -3,7 +3,7 @@ use Rattle.std.specs.Prelude.{◌≡◌, ℕ, ◌^◌, ◌≤◌, List, length, 
 use Rattle.ground.specs.Questions.{arcs_at}
 use Rattle.arcs.specs.Index.{start_of, Indexed}
 use Rattle.arcs.specs.Tables.{end_at, AllLawful, LowestUnlawful}
-use Rattle.arcs.specs.declared.end.End.{End}
+use Rattle.ground.specs.declared.end.End.{End}
 use Rattle.arcs.specs.declared.net.Net.{Net}
 use Rattle.terms.specs.declared.arc.Arc.{Arc}
 use Rattle.terms.specs.declared.refusal.Refusal.{Refusal}

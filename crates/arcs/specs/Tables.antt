@@ -1,8 +1,8 @@
 -- Tables of arcs, and which of their arcs are lawful. Assumes nothing.
 use Rattle.std.specs.Prelude.{ℕ, ◌<◌, ◌≤◌, List, length, Some, None, Option, slice_index_or}
 use Rattle.terms.specs.declared.arc.Arc.{Arc}
-use Rattle.arcs.specs.declared.end.End.{End}
-use Rattle.arcs.specs.declared.end.End.TheVariants.{Tail, Head}
+use Rattle.ground.specs.declared.end.End.{End}
+use Rattle.ground.specs.declared.end.End.TheVariants.{Tail, Head}
 
 -- arc j of a table, and zeros past its end
 abbrev pub arc_at : List Arc → ℕ → Arc

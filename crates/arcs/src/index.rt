@@ -3,9 +3,9 @@ ghost use Rattle.std.specs.Prelude.{◌≡◌, ◌↔◌, ◌^◌, ◌<◌, leng
 ghost use Rattle.std.specs.List.{slice_get};
 ghost use Rattle.arcs.specs.Index.{Listing, SameFrom};
 
-use crate::end::End;
 use crate::net::Net;
 use crate::sort::sort;
+use ground::end::End;
 
 // Each table has a lifetime of its own, so that whoever lent both can tell in a proof what each holds afterwards.
 #[derive(Drop)]

@@ -2,7 +2,7 @@
 ghost use Rattle.std.specs.Prelude.{◌≤◌, length};
 ghost use Rattle.arcs.specs.Lists.{HasRoom, Indexes};
 ghost use Rattle.arcs.specs.Tables.{AllLawful};
-ghost use Rattle.arcs.specs.declared.end.End.TheVariants.{Tail, Head};
+ghost use Rattle.ground.specs.declared.end.End.TheVariants.{Tail, Head};
 ghost use Rattle.roads.specs.Heights.{LowHeights, Steps};
 
 use arcs::index::Index;

@@ -9,9 +9,9 @@ ghost use Rattle.survey.specs.Workings.{SameNames, Wiped};
 use crate::measure::measure;
 use crate::task::Task;
 use crate::working::Working;
-use arcs::end::End;
 use arcs::index::Index;
 use arcs::net::Net;
+use ground::end::End;
 use terms::arc::Arc;
 use terms::refusal::Refusal;
 

@@ -1,7 +1,7 @@
 // What to measure: how far every place of a net is from one of them.
 ghost use Rattle.std.specs.Prelude.{◌<◌, ◌≤◌};
 ghost use Rattle.arcs.specs.Lists.{Indexes};
-ghost use Rattle.arcs.specs.declared.end.End.TheVariants.{Tail};
+ghost use Rattle.ground.specs.declared.end.End.TheVariants.{Tail};
 
 use arcs::index::Index;
 use arcs::net::Net;

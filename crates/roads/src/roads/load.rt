@@ -5,9 +5,9 @@ ghost use Rattle.roads.specs.Tables.{tables_of, SameNames};
 
 use crate::check::{first_steep, within};
 use crate::roads::Roads;
-use arcs::end::End;
 use arcs::index::Index;
 use arcs::net::Net;
+use ground::end::End;
 use terms::arc::Arc;
 use terms::refusal::Refusal;
 

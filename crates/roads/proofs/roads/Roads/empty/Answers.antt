@@ -1,5 +1,5 @@
 use Rattle.arcs.proofs.Listed.{empty_indexes}
-use Rattle.arcs.specs.declared.end.End.TheVariants.{Tail, Head}
+use Rattle.ground.specs.declared.end.End.TheVariants.{Tail, Head}
 use Rattle.roads.proofs.roads.Roads.empty.Goals as goal
 
 pub invariant_of-result-clause-leaving_right : goal.invariant_of-result-clause-leaving_right
