@@ -4,9 +4,9 @@
 use queue::entry::Entry;
 use sheet::places::places;
 use sheet::read::read;
-use std::alloc::Global;
 use std::io::Read;
 use survey::survey::survey;
+use survey::working::Working;
 use terms::arc::Arc;
 use terms::refusal::Refusal;
 
@@ -15,30 +15,19 @@ const PLACES: usize = 16_384;
 
 const ARCS: usize = 131_072;
 
-// Surveys from place 0 into the heights.
+// Reads the sheet and surveys from place 0 into the heights; answers how many places there are.
 fn measure(
-    heap: Global,
-    arcs: &[Arc],
+    input: &[u8],
+    table: &mut [Arc],
     heights: &mut [u32],
-) -> anyhow::Result<Result<u32, Refusal>> {
-    let mut ends = vec![in heap; 0u32; PLACES]?;
-    let mut order = vec![in heap; 0u32; ARCS]?;
-    let mut sums = vec![in heap; 0u32; PLACES]?;
-    let mut queue = vec![in heap; Entry::free(); PLACES]?;
-    // more places than the tables hold are all the same to Survey
-    let n = places(arcs).min(16_385) as u32;
-    match survey(
-        0, n, arcs, heights, &mut ends, &mut order, &mut sums, &mut queue,
-    ) {
-        Ok(()) => Ok(Ok(n)),
-        Err(refusal) => Ok(Err(refusal)),
-    }
-}
-
-fn refuse(rt: &HostRuntime, refusal: Refusal) -> anyhow::Result<()> {
-    let number = refusal.number();
-    println!(rt; "refused {number}: {refusal}")?;
-    Ok(())
+    work: &mut Working,
+) -> Result<u32, Refusal> {
+    let sheet = read(input, table)?;
+    let arcs = &table[..sheet.arcs];
+    // more places than the heights hold are all the same to Survey
+    let n = u32::try_from(places(arcs)).unwrap_or(u32::MAX);
+    survey(0, n, arcs, heights, work)?;
+    Ok(n)
 }
 
 fn run(rt: &HostRuntime) -> anyhow::Result<()> {
@@ -47,19 +36,25 @@ fn run(rt: &HostRuntime) -> anyhow::Result<()> {
     rt.stdin().read_to_end(&mut input)?;
     let mut table = vec![in heap; Arc::default(); ARCS]?;
     let mut heights = vec![in heap; 0u32; PLACES]?;
-    let arcs = match read(&input, &mut table) {
-        Ok(sheet) => sheet.arcs,
-        Err(refusal) => return refuse(rt, refusal),
+    let mut ends = vec![in heap; 0u32; PLACES]?;
+    let mut order = vec![in heap; 0u32; ARCS]?;
+    let mut sums = vec![in heap; 0u32; PLACES]?;
+    let mut queue = vec![in heap; Entry::free(); PLACES]?;
+    let mut work = Working {
+        ends: &mut ends,
+        order: &mut order,
+        sums: &mut sums,
+        queue: &mut queue,
     };
-    match measure(heap, &table[0..arcs], &mut heights)? {
+    match measure(&input, &mut table, &mut heights, &mut work) {
         Ok(n) => {
             for (place, sum) in heights.iter().take(n as usize).enumerate() {
                 println!(rt; "place {place}: {sum}")?;
             }
-            Ok(())
         }
-        Err(refusal) => refuse(rt, refusal),
+        Err(refusal) => println!(rt; "refused {}: {refusal}", refusal.number())?,
     }
+    Ok(())
 }
 
 fn main(rt: HostRuntime) -> anyhow::Result<()> {
