@@ -91,7 +91,7 @@ fn cut<T>(whole: &[T], from: u32, to: u32) -> &[T] {
 
 impl Ask {
     fn call<'a>(&self, listed: &'a [u32]) -> Call<&'a [u32]> {
-        // The kinds are numbers, since Rust hands them over.
+        // The kinds are numbers, since they come through the C interface.
         match self.kind {
             0 => Call::Begin {
                 here: self.first,

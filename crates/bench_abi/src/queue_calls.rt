@@ -57,7 +57,7 @@ fn carry_out(q: &mut Queue<Key>, s: &Step) -> Answer {
         first: s.first,
         second: s.second,
     };
-    // The kinds are numbers, since Rust hands them over.
+    // The kinds are numbers, since they come through the C interface.
     match s.kind {
         0 => Answer::of_code(
             q.put(s.number, key)

@@ -1,4 +1,6 @@
 // A ground, held to what is expected of it.
+use ground::around::Around;
+use ground::end::End;
 use ground::ground::Ground;
 use std::process::Abort;
 
@@ -27,22 +29,20 @@ pub(crate) fn estimates_are<G: Ground>(rt: &impl Abort, ground: &G, expected: &[
     }
 }
 
-pub(crate) fn leaving_are<G: Ground>(rt: &impl Abort, ground: &G, place: u32, expected: &[u32]) {
-    assert_eq!(rt; ground.leaving_count(place) as usize, expected.len());
-    let mut k = 0;
+// The arcs with an end at a place, in order, and nothing after them.
+fn around_are<G: Ground>(rt: &impl Abort, ground: &G, place: u32, end: End, expected: &[u32]) {
+    assert_eq!(rt; end.count_at(ground, place) as usize, expected.len());
+    let mut arcs = Around::new(ground, place, end);
     for arc in expected {
-        assert_eq!(rt; ground.leaving(place, k), Some(*arc));
-        k = k.wrapping_add(1);
+        assert_eq!(rt; arcs.next(), Some(*arc));
     }
-    assert_eq!(rt; ground.leaving(place, k), None);
+    assert_eq!(rt; arcs.next(), None);
+}
+
+pub(crate) fn leaving_are<G: Ground>(rt: &impl Abort, ground: &G, place: u32, expected: &[u32]) {
+    around_are(rt, ground, place, End::Tail, expected);
 }
 
 pub(crate) fn entering_are<G: Ground>(rt: &impl Abort, ground: &G, place: u32, expected: &[u32]) {
-    assert_eq!(rt; ground.entering_count(place) as usize, expected.len());
-    let mut k = 0;
-    for arc in expected {
-        assert_eq!(rt; ground.entering(place, k), Some(*arc));
-        k = k.wrapping_add(1);
-    }
-    assert_eq!(rt; ground.entering(place, k), None);
+    around_are(rt, ground, place, End::Head, expected);
 }

@@ -15,7 +15,7 @@ pub(crate) enum Kind {
 
 #[derive(Clone, Copy)]
 pub(crate) struct Course {
-    // Closed is emptied and the count starts at 0
+    // Closed is emptied and the count starts at 0; the next phase is told either way
     pub(crate) afresh: bool,
     // the phase after the call, unless a search then settles
     pub(crate) next: Phase,

@@ -1,4 +1,4 @@
-// What a search came to.
+// What a search came to. A flag and a number: the turns are told whether it settled or not.
 #[derive(Clone, Copy, Debug, PartialEq, Eq)]
 pub struct Made {
     // the end test holds

@@ -18,7 +18,7 @@ pub enum Columns {
 }
 
 impl Columns {
-    // The line of names that says this order.
+    // The line of names that says this order: bytes, and not a Display, since it is compared with a text's bytes.
     pub fn names(self) -> &'static [u8]
         ensures { result.now ≡ name_line self }
     {

@@ -30,6 +30,7 @@ impl<'a, G: Ground> Ground for Pickup<'a, G> {
         }
     }
 
+    // The trait asks for either end apart; what the answers share is behind `end_of`, `count_at` and `nth_at`.
     fn tail(&self, arc: u32) -> Option<u32> {
         self.end_of(End::Tail, arc)
     }

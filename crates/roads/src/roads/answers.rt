@@ -18,6 +18,7 @@ impl<'a, 't> Ground for Roads<'a, 't> {
         self.net.arcs.len() as u32
     }
 
+    // The trait asks for each end and for each count apart; a function that two answers shared would be no shorter than their lines.
     fn tail(&self, arc: u32) -> Option<u32> {
         self.net.arcs.get(arc as usize).map(|a| a.tail)
     }

@@ -14,6 +14,7 @@ impl<'t, G: Ground> Tables<'t, G> {
         ensures same { Same self.old self.new }
     {
         none_waits(self.entries);
+        // by number, since a place's entry in the queue stands under its number
         for p in 0..self.task.site.places() {
             let place = self.places[p as usize];
             self.store(
