@@ -2,9 +2,11 @@
 use crate::detours::drive;
 use crate::sample::sample_run;
 use grid::grid::Grid;
+use ground::ground::Ground;
 use pickup::pickup::Pickup;
 use queue::entry::Entry;
 use roads::roads::Roads;
+use std::process::Abort;
 use std::test::Fail;
 use survey::survey::survey;
 use survey::working::Working;
@@ -33,6 +35,14 @@ fn with_a_pickup(rt: HostRuntime) -> Result<(), Fail> {
 
 fn arc(tail: u32, head: u32, least: u32) -> Arc {
     Arc { tail, head, least }
+}
+
+// The drives in the town, without and with a pick-up at its last place.
+fn drive_in<G: Ground>(rt: &impl Abort, town: &G) {
+    sample_run(rt, town);
+    drive(rt, town, 3, (3, &[0, 1], 9), 1, (4, &[2, 3], 11));
+    let layer = Pickup::new(town, 3);
+    drive(rt, &layer, 7, (6, &[0, 1, 8], 10), 1, (5, &[2, 3, 8], 12));
 }
 
 // Two ways lead from place 0 to place 3.
@@ -66,9 +76,6 @@ fn in_the_town(rt: HostRuntime) -> Result<(), Fail> {
         &mut enterers,
     );
     roads.load(4, &arcs, &heights)?;
-    sample_run(&rt, &roads);
-    drive(&rt, &roads, 3, (3, &[0, 1], 9), 1, (4, &[2, 3], 11));
-    let layer = Pickup::new(&roads, 3);
-    drive(&rt, &layer, 7, (6, &[0, 1, 8], 10), 1, (5, &[2, 3, 8], 12));
+    drive_in(&rt, &roads);
     Ok(())
 }
