@@ -1,5 +1,5 @@
 -- Tables of arcs, and which of their arcs are lawful. Assumes nothing.
-use Rattle.std.specs.Prelude.{ℕ, ◌<◌, ◌≤◌, List, length, Some, None, Option, slice_index_or}
+use Rattle.std.specs.Prelude.{ℕ, ◌<◌, ◌≤◌, List, length, slice_index_or}
 use Rattle.terms.specs.declared.arc.Arc.{Arc}
 use Rattle.ground.specs.declared.end.End.{End}
 use Rattle.ground.specs.declared.end.End.TheVariants.{Tail, Head}
@@ -33,8 +33,3 @@ pub record LowestUnlawful (n : ℕ) (arcs : List Arc) (j : ℕ) : Type 0 where
   pub there : j < length arcs
   pub unlawful : LawfulArc n (arc_at arcs j) → ⊥
   pub lowest : (i : ℕ) → i < j → LawfulArc n (arc_at arcs i)
-
--- the lowest unlawful arc, or that there is none
-abbrev pub UnlawfulIs : ℕ → List Arc → Option ℕ → Type 0
-UnlawfulIs n arcs None = AllLawful n arcs
-UnlawfulIs n arcs (Some j) = LowestUnlawful n arcs j

@@ -1,6 +1,6 @@
 // Which arcs are lawful.
-ghost use Rattle.std.specs.Prelude.{◌↔◌, IsTrue};
-ghost use Rattle.arcs.specs.Tables.{LawfulArc, UnlawfulIs};
+ghost use Rattle.std.specs.Prelude.{◌↔◌, IsTrue, MatchOption};
+ghost use Rattle.arcs.specs.Tables.{AllLawful, LawfulArc, LowestUnlawful};
 
 use terms::arc::Arc;
 
@@ -16,7 +16,7 @@ fn lawful(places: usize, arc: Arc) -> bool
 
 // The lowest arc that is not lawful.
 pub fn first_unlawful(places: usize, arcs: &[Arc]) -> Option<usize>
-    ensures { UnlawfulIs places arcs.now result }
+    ensures { MatchOption result (AllLawful places arcs.now) (LowestUnlawful places arcs.now) }
 {
     arcs.iter().position(|arc| !lawful(places, *arc))
 }

@@ -1,5 +1,5 @@
 -- When Load accepts tables, and why it declines them. Assumes nothing.
-use Rattle.std.specs.Prelude.{◌≡◌, ℕ, ◌<◌, ◌≤◌, List, length, Some, None, Ok, Err, Option, Result}
+use Rattle.std.specs.Prelude.{◌≡◌, ℕ, ◌<◌, ◌≤◌, List, length, Ok, Err, Result}
 use Rattle.arcs.specs.Index.{SameFrom}
 use Rattle.arcs.specs.Tables.{AllLawful, LowestUnlawful}
 use Rattle.roads.specs.Heights.{height_of, LowHeights, StepAt, Steps}
@@ -35,11 +35,6 @@ pub record LowestSteep (arcs : List Arc) (heights : List ℕ) (j : ℕ) : Type 0
   pub there : j < length arcs
   pub steep : StepAt arcs heights j → ⊥
   pub lowest : (i : ℕ) → i < j → StepAt arcs heights i
-
--- the lowest such arc, or that there is none
-abbrev pub SteepIs : List Arc → List ℕ → Option ℕ → Type 0
-SteepIs arcs heights None = Steps arcs heights
-SteepIs arcs heights (Some j) = LowestSteep arcs heights j
 
 -- the tables are accepted
 pub record Accepted (n : ℕ) (arcs : List Arc) (heights : List ℕ) (own : Own) : Type 0 where

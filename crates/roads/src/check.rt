@@ -1,7 +1,7 @@
 // What has to hold of a net and its heights before roads take them.
-ghost use Rattle.std.specs.Prelude.{◌+◌, ◌<◌, ◌≤◌, ◌↔◌, length, IsTrue};
-ghost use Rattle.roads.specs.Heights.{height_of};
-ghost use Rattle.roads.specs.Loads.{SteepIs, Within};
+ghost use Rattle.std.specs.Prelude.{◌+◌, ◌<◌, ◌≤◌, ◌↔◌, length, IsTrue, MatchOption};
+ghost use Rattle.roads.specs.Heights.{height_of, Steps};
+ghost use Rattle.roads.specs.Loads.{LowestSteep, Within};
 
 use arcs::net::Net;
 use terms::arc::Arc;
@@ -22,15 +22,15 @@ fn is_steep(heights: &[u32], arc: Arc) -> bool
     requires head { arc.head < length heights.now }
     ensures { IsTrue result ↔ (height_of heights.now arc.tail + arc.least < height_of heights.now arc.head) }
 {
-    let tail = heights[arc.tail as usize] as u64;
-    let head = heights[arc.head as usize] as u64;
-    head > tail + arc.least as u64
+    let tail = u64::from(heights[arc.tail as usize]);
+    let head = u64::from(heights[arc.head as usize]);
+    head > tail + u64::from(arc.least)
 }
 
 // The lowest such arc.
 pub(crate) fn first_steep(net: &Net, heights: &[u32]) -> Option<usize>
     requires { net.now.places ≤ length heights.now }
-    ensures { SteepIs net.now.arcs.now heights.now result }
+    ensures { MatchOption result (Steps net.now.arcs.now heights.now) (LowestSteep net.now.arcs.now heights.now) }
 {
     net.arcs.iter().position(|arc| is_steep(heights, *arc))
 }

@@ -7,6 +7,7 @@ use crate::cut::cut;
 use std::marker::Model;
 
 // Byte 10 ends a line, and so does the end of the text; a last byte 10 opens no further line.
+// Not one type with `Fields`, where a last space does open a field: a flag would have to say which.
 #[derive(Drop)]
 pub struct Lines<'a> {
     rest: &'a [u8],

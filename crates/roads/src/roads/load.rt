@@ -12,7 +12,8 @@ use terms::arc::Arc;
 use terms::refusal::Refusal;
 
 impl<'a, 't> Roads<'a, 't> {
-    // Empty roads, with no places and no arcs, over the tables that Load fills.
+    // Empty roads, with no places and no arcs, over the tables that Load fills. These come one by one, as the arrays that
+    // callers have, and not as indexes, which they would have to make.
     pub fn empty(
         heights: &'t mut [u32],
         leaving: &'t mut [u32],
