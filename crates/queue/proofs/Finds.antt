@@ -1,12 +1,12 @@
 -- Finding a number, or room, in a table.
-use Rattle.std.proofs.Common.{◌≡◌, ℕ, ◌%◌, ◌<◌, ◌≤◌, Bool, true, false, List, length, get_or, set, is_none, is_some, Some, None, Option, sym, refl, ap, ◌∙◌, subst, inl, inr, arith}
+use Rattle.std.proofs.Common.{◌≡◌, ℕ, ◌+◌, ◌%◌, ◌<◌, ◌≤◌, Bool, true, false, List, length, get_or, set, is_none, is_some, Some, None, Option, sym, refl, ap, ◌∙◌, subst, inl, inr, arith, below_more}
 use Rattle.std.specs.List.{AllWithin, HoldsAt}
 use Rattle.std.specs.Option.{MatchOption}
 use Rattle.std.proofs.lemmas.List.{get_or-map, get_or_past, length-map, map-set, get_or-set_same, get_or-set_other}
 use Rattle.std.proofs.lemmas.Bool.{cases_Bool, cases_eq, cases_lt, both_ways, false≢true}
 use Rattle.queue.specs.declared.entry.Entry.{Entry}
-use Rattle.queue.specs.Content.{free_entry, item_of, items}
-use Rattle.queue.specs.Sound.{under, Found, Room, Chosen, Marked}
+use Rattle.queue.specs.Content.{free_entry, item_of, items, held}
+use Rattle.queue.specs.Sound.{under, free_or, Absent, Homed, Found, Room, Scanned, Chosen, Marked}
 use Rattle.queue.specs.Tree.{strays}
 use Rattle.queue.proofs.Contests.{item_read, length_items}
 use Rattle.queue.proofs.Contents.{under_some, other_under, none_under, count_full}
@@ -21,12 +21,34 @@ taken_some None h = absurd (false≢true (sym h))
 taken_some (Some a) h = refl
 
 module _ {K : Type 0} (es : List (Entry K)) where
+  -- the entry read at a slot, and whether it holds the number
+  pub under_read : (i n : ℕ) (e : Entry K) (b : Bool) → i < length es → e ≡ get_or es i e → b ≡ under (item_of e) n → under (get_or (items es) i None) n ≡ b
+  under_read i n e b l r h = ap (λ x. under x n) (item_read es i e l r) ∙ sym h
+
   pub free_read : (i : ℕ) (e : Entry K) (b : Bool) → i < length es → e ≡ get_or es i e → b ≡ is_none (item_of e) → is_none (get_or (items es) i None) ≡ b
   free_read i e b l r h = ap is_none (item_read es i e l r) ∙ sym h
 
   -- past the table there is nothing
   pub absent_past : (n s : ℕ) → length es ≤ s → under (get_or (items es) s None) n ≡ false
   absent_past n s h = none_under _ n (get_or_past (items es) s None (let e = length_items es in omega arith))
+
+  absent_all : (n i : ℕ) → length es ≤ i → ((s : ℕ) → s < i → under (get_or (items es) s None) n ≡ false) → Absent (items es) n
+  absent_all n i h below s = elim (cases_lt s i) [ inl l ↦ below s l | inr g ↦ absent_past n s (omega arith) ]
+
+  pub full_all : (i : ℕ) → length es ≤ i → ((s : ℕ) → s < i → get_or (items es) s None ≡ None → ⊥) → held es ≡ length es
+  full_all i h below = let e = length_items es in count_full (items es) (λ s l. below s (omega arith)) ∙ e
+
+  -- with its home unmarked, a number that is not at home is nowhere
+  pub absent_home : (n h : ℕ) (d : Entry K) → h ≡ n % length es → h < length es → under (get_or (items es) h None) n ≡ false → (get_or es h d).strayed ≡ false → Homed (length es) (items es) (strays es) → Absent (items es) n
+  absent_home n h d at l away plain homed s =
+      elim (cases_Bool (under (get_or (items es) s None) n)) [
+        | inl t ↦ absurd
+            (elim (homed s n t) [
+              | inl q ↦ (let P : ℕ → Type 0 = λ j. under (get_or (items es) j None) n ≡ false in both_ways _ (subst P (at ∙ sym q) away) t)
+              | inr m ↦ (let P : ℕ → Type 0 = λ j. get_or (strays es) j false ≡ false in both_ways _ (subst P at (get_or-map (λ x. x.strayed) es h d false l ∙ plain)) m)
+            ])
+        | inr f ↦ f
+      ]
 
   -- ---- the slot that is chosen
 
@@ -39,9 +61,35 @@ module _ {K : Type 0} (es : List (Entry K)) where
   chosen_free n (Some s) f r = (r.0, λ m ne. none_under _ m r.1, λ homed distinct t ne. f homed t)
   chosen_free n None f r = (r, f)
 
-  pub chosen : (n : ℕ) (f r : Option ℕ) → Found es n f → MatchOption f (Room es r) (λ s. r ≡ Some s) → Chosen es n r
-  chosen n None r f room = chosen_free n r f room
-  chosen n (Some s) r f e = subst (λ (o : Option ℕ). Chosen es n o) (sym e) (chosen_found n s f)
+  pub chosen_scanned : (n : ℕ) (r : Option ℕ) → Scanned es n r → Chosen es n r
+  chosen_scanned n (Some s) (l, inl u) = chosen_found n s (l, u)
+  chosen_scanned n (Some s) (l, inr w) = chosen_free n (Some s) (λ _. w.1) (l, w.0)
+  chosen_scanned n None r = chosen_free n None (λ _. r.1) r.0
+
+  -- ---- one scan for both
+
+  -- the free slot found so far, or that all slots so far are taken
+  unfoldable pub Freest : ℕ → Option ℕ → Type 0
+  Freest i (Some s) = (s < i) × (get_or (items es) s None ≡ None)
+  Freest i None = (s : ℕ) → s < i → get_or (items es) s None ≡ None → ⊥
+
+  pub freest_none : Freest 0 None
+  unfolding Freest
+  freest_none s l = absurd (omega arith)
+
+  freest_step : (i : ℕ) (x : Option (ℕ × K)) (f : Option ℕ) → get_or (items es) i None ≡ x → Freest i f → Freest (i + 1) (free_or x i f)
+  unfolding Freest
+  freest_step i None f e h = (omega arith, e)
+  freest_step i (Some x) (Some s) e h = (omega (arith, h.0), h.1)
+  freest_step i (Some x) None e h = below_more _ _ h (λ z. let q : Some x ≡ None = sym e ∙ z in cc)
+
+  pub freest_more : (i : ℕ) (e : Entry K) (f r : Option ℕ) → i < length es → e ≡ get_or es i e → Freest i f → r ≡ free_or (item_of e) i f → Freest (i + 1) r
+  freest_more i e f r l at h q = let P : Option ℕ → Type 0 = λ z. Freest (i + 1) z in subst P (sym q) (freest_step i (item_of e) f (item_read es i e l at) h)
+
+  pub scanned_all : (n i : ℕ) (f : Option ℕ) → i ≤ length es → length es ≤ i → Freest i f → ((s : ℕ) → s < i → under (get_or (items es) s None) n ≡ false) → Scanned es n f
+  unfolding Freest
+  scanned_all n i (Some s) l g h away = (omega (arith, h.0), inr (h.1, absent_all n i g away))
+  scanned_all n i None l g h away = (full_all i g h, absent_all n i g away)
 
   -- ---- a look at every slot
 

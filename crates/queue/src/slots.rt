@@ -1,6 +1,7 @@
 // Where a number stands in the table, and where there is room for one.
 ghost use Rattle.std.specs.Prelude.{◌≡◌, ℕ, ◌%◌, ◌<◌, length, MatchOption};
-ghost use Rattle.queue.specs.Sound.{Chosen, Found, Marked, Room};
+ghost use Rattle.queue.specs.Content.{item_of};
+ghost use Rattle.queue.specs.Sound.{free_or, Chosen, Found, Marked, Room, Scanned};
 
 use crate::entry::Entry;
 
@@ -42,12 +43,39 @@ fn find_free<K>(es: &[Entry<K>], number: u32) -> Option<usize>
     }
 }
 
+// The slot that is free, where this one is, else the one that was found before.
+fn free_or<K>(e: &Entry<K>, slot: usize, earlier: Option<usize>) -> Option<usize>
+    ensures { result ≡ free_or (item_of e.now) slot earlier }
+{
+    if e.is_free() { Some(slot) } else { earlier }
+}
+
+// Looks at every slot for the number, and else for a free one.
+fn scan_both<K>(es: &[Entry<K>], number: u32) -> Option<usize>
+    ensures { Scanned es.now number result }
+{
+    let mut free = None;
+    for (slot, e) in es.iter().enumerate() {
+        if e.holds(number) {
+            return Some(slot);
+        }
+        free = free_or(e, slot, free);
+    }
+    free
+}
+
 // The slot that a key under the number is to take: the one that holds the number, else a free one.
-#[tactic(auto, using(crate::proofs::Finds::chosen))]
 pub(crate) fn choose<K>(es: &[Entry<K>], number: u32) -> Option<usize>
     ensures { Chosen es.now number result }
 {
-    find(es, number).or_else(|| find_free(es, number))
+    let home = home_of(es.len(), number)?;
+    if es[home].holds(number) {
+        Some(home)
+    } else if es[home].strayed {
+        scan_both(es, number)
+    } else {
+        find_free(es, number)
+    }
 }
 
 // Marks the home of a number that is to stand in another slot.
