@@ -5,7 +5,7 @@ use Rattle.std.specs.Option.{MatchOption}
 use Rattle.std.proofs.lemmas.List.{get_or-map, get_or_past, length-map, map-set, get_or-set_same, get_or-set_other}
 use Rattle.std.proofs.lemmas.Bool.{cases_Bool, cases_eq, cases_lt, both_ways, false≢true}
 use Rattle.queue.specs.declared.entry.Entry.{Entry}
-use Rattle.queue.specs.Content.{free_entry, item_of, items, held}
+use Rattle.queue.specs.Content.{free_entry, item_of, items, held, strayed_of}
 use Rattle.queue.specs.Sound.{under, free_or, Absent, Homed, Found, Room, Scanned, Chosen, Marked}
 use Rattle.queue.specs.Tree.{strays}
 use Rattle.queue.proofs.Contests.{item_read, length_items}
@@ -39,13 +39,13 @@ module _ {K : Type 0} (es : List (Entry K)) where
   full_all i h below = let e = length_items es in count_full (items es) (λ s l. below s (omega arith)) ∙ e
 
   -- with its home unmarked, a number that is not at home is nowhere
-  pub absent_home : (n h : ℕ) (d : Entry K) → h ≡ n % length es → h < length es → under (get_or (items es) h None) n ≡ false → (get_or es h d).strayed ≡ false → Homed (length es) (items es) (strays es) → Absent (items es) n
-  absent_home n h d at l away plain homed s =
+  pub absent_home : (n h : ℕ) (e : Entry K) → h ≡ n % length es → h < length es → under (get_or (items es) h None) n ≡ false → e ≡ get_or es h e → false ≡ strayed_of e → Homed (length es) (items es) (strays es) → Absent (items es) n
+  absent_home n h e at l away r plain homed s =
       elim (cases_Bool (under (get_or (items es) s None) n)) [
         | inl t ↦ absurd
             (elim (homed s n t) [
               | inl q ↦ (let P : ℕ → Type 0 = λ j. under (get_or (items es) j None) n ≡ false in both_ways _ (subst P (at ∙ sym q) away) t)
-              | inr m ↦ (let P : ℕ → Type 0 = λ j. get_or (strays es) j false ≡ false in both_ways _ (subst P at (get_or-map (λ x. x.strayed) es h d false l ∙ plain)) m)
+              | inr m ↦ (let P : ℕ → Type 0 = λ j. get_or (strays es) j false ≡ false in both_ways _ (subst P at (get_or-map strayed_of es h e false l ∙ (ap strayed_of (sym r) ∙ sym plain))) m)
             ])
         | inr f ↦ f
       ]
@@ -112,20 +112,20 @@ module _ {K : Type 0} (es : List (Entry K)) where
 
   -- ---- the mark
 
-  pub marks : (slot n h : ℕ) (e d : Entry K) → h ≡ n % length es → h < length es → item_of e ≡ item_of (get_or es h d) → e.winner ≡ (get_or es h d).winner → e.strayed ≡ true → Marked slot n es (set es h e)
+  pub marks : (slot n h : ℕ) (e d : Entry K) → h ≡ n % length es → h < length es → item_of e ≡ item_of (get_or es h d) → e.winner ≡ (get_or es h d).winner → strayed_of e ≡ true → Marked slot n es (set es h e)
   marks slot n h e d at l hi hw hs =
       record {
         same = blind es h d e item_of hi;
         tree = blind es h d e (λ x. x.winner) hw;
         kept = λ j t. let P : List Bool → Type 0 = λ zs. get_or zs j false ≡ true in
-            subst P (sym (map-set (λ x. x.strayed) es h e))
+            subst P (sym (map-set strayed_of es h e))
             (elim (cases_eq j h) [
-              | inl q ↦ (let Q : ℕ → Type 0 = λ i. get_or (set (strays es) h e.strayed) i false ≡ true in subst Q (sym q) here)
-              | inr ne ↦ get_or-set_other (strays es) h j e.strayed false ne ∙ t
+              | inl q ↦ (let Q : ℕ → Type 0 = λ i. get_or (set (strays es) h (strayed_of e)) i false ≡ true in subst Q (sym q) here)
+              | inr ne ↦ get_or-set_other (strays es) h j (strayed_of e) false ne ∙ t
             ]);
         known = inr (let P : List Bool → Type 0 = λ zs. get_or zs (n % length es) false ≡ true in
-            subst P (sym (map-set (λ x. x.strayed) es h e)) (let Q : ℕ → Type 0 = λ i. get_or (set (strays es) h e.strayed) i false ≡ true in subst Q at here));
+            subst P (sym (map-set strayed_of es h e)) (let Q : ℕ → Type 0 = λ i. get_or (set (strays es) h (strayed_of e)) i false ≡ true in subst Q at here));
       }
     where
-      here : get_or (set (strays es) h e.strayed) h false ≡ true
-      here = get_or-set_same (strays es) h e.strayed false (let k = length-map es (λ x. x.strayed) in omega arith) ∙ hs
+      here : get_or (set (strays es) h (strayed_of e)) h false ≡ true
+      here = get_or-set_same (strays es) h (strayed_of e) false (let k = length-map es strayed_of in omega arith) ∙ hs

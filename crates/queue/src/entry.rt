@@ -1,17 +1,21 @@
 // One entry of the table that a queue works in.
-ghost use Rattle.std.specs.Prelude.{◌≡◌, ℕ, length, replicate, Some, None, Option, is_none};
-ghost use Rattle.queue.specs.Content.{free_entry, item_of};
+ghost use Rattle.std.specs.Prelude.{◌≡◌, ℕ, true, length, replicate, Some, None, Option, is_none};
+ghost use Rattle.queue.specs.Content.{free_entry, item_of, strayed_of};
 ghost use Rattle.queue.specs.Sound.{under};
 
-#[derive(Clone, Copy, Default)]
+// What stands in a slot, if anything. The mark says that an entry whose home is this slot may stand in another. It and the number lie before the key, where the tag leaves
+// room: so the planner's entry takes 32 bytes.
+#[derive(Clone, Copy)]
+enum Slot<K> {
+    Free { strayed: bool },
+    Taken { strayed: bool, number: u32, key: K },
+}
+
+#[derive(Clone, Copy)]
 pub struct Entry<K> {
-    // What stands here, if anything. In one `Option` with its number the planner's entry would take 48 bytes, and 40 are allowed.
-    key: Option<K>,
+    slot: Slot<K>,
     // the slot that wins at the node of this entry's index
     pub(crate) winner: usize,
-    number: u32,
-    // an entry whose home is this slot may stand in another
-    pub(crate) strayed: bool,
 }
 
 impl<K> Entry<K> {
@@ -20,10 +24,8 @@ impl<K> Entry<K> {
         ensures { result ≡ free_entry }
     {
         Entry {
-            key: None,
+            slot: Slot::Free { strayed: false },
             winner: 0,
-            number: 0,
-            strayed: false,
         }
     }
 
@@ -31,7 +33,10 @@ impl<K> Entry<K> {
     pub(crate) fn is_free(&self) -> bool
         ensures { result ≡ is_none (item_of self.now) }
     {
-        self.key.is_none()
+        match self.slot {
+            Slot::Free { .. } => true,
+            Slot::Taken { .. } => false,
+        }
     }
 
     // Whether a key stands here under the number.
@@ -39,7 +44,40 @@ impl<K> Entry<K> {
     pub(crate) fn holds(&self, number: u32) -> bool
         ensures { result ≡ under (item_of self.now) number }
     {
-        self.number == number && self.key.is_some()
+        match self.slot {
+            Slot::Free { .. } => false,
+            Slot::Taken { number: n, .. } => n == number,
+        }
+    }
+
+    // Whether an entry whose home is this slot may stand in another.
+    pub(crate) fn is_strayed(&self) -> bool
+        ensures { result ≡ strayed_of self.now }
+    {
+        match self.slot {
+            Slot::Free { strayed } => strayed,
+            Slot::Taken { strayed, .. } => strayed,
+        }
+    }
+
+    // Marks this slot as the home of an entry that stands in another.
+    pub(crate) fn stray(&mut self)
+        ensures item { item_of self.new ≡ item_of self.old }
+        ensures winner { self.new.winner ≡ self.old.winner }
+        ensures strayed { strayed_of self.new ≡ true }
+    {
+        match &mut self.slot {
+            Slot::Free { strayed } => *strayed = true,
+            Slot::Taken { strayed, .. } => *strayed = true,
+        }
+    }
+}
+
+impl<K> Default for Entry<K> {
+    ghost is_default = { λ e. e ≡ free_entry };
+
+    fn default() -> Self {
+        Entry::free()
     }
 }
 
@@ -48,23 +86,28 @@ impl<K: Copy> Entry<K> {
     pub(crate) fn item(&self) -> Option<(u32, K)>
         ensures { result ≡ item_of self.now }
     {
-        self.key.map(|key| (self.number, key))
+        match self.slot {
+            Slot::Free { .. } => None,
+            Slot::Taken { number, key, .. } => Some((number, key)),
+        }
     }
 
     // The same entry with something else standing here.
     pub(crate) fn with(self, item: Option<(u32, K)>) -> Self
         ensures item { item_of result ≡ item }
         ensures winner { result.winner ≡ self.winner }
-        ensures strayed { result.strayed ≡ self.strayed }
+        ensures strayed { strayed_of result ≡ strayed_of self }
     {
-        match item {
-            Some((number, key)) => Entry {
-                key: Some(key),
+        let strayed = self.is_strayed();
+        let slot = match item {
+            Some((number, key)) => Slot::Taken {
+                strayed,
                 number,
-                ..self
+                key,
             },
-            None => Entry { key: None, ..self },
-        }
+            None => Slot::Free { strayed },
+        };
+        Entry { slot, ..self }
     }
 }
 

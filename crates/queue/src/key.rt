@@ -22,4 +22,4 @@ impl Key {
 }
 
 // The most bytes that the planner's entry may take.
-const _: () = prove!(std::mem::size_of::<Entry<Key>>() <= 40);
+const _: () = prove!(std::mem::size_of::<Entry<Key>>() <= 32);

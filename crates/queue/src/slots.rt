@@ -24,7 +24,7 @@ pub(crate) fn find<K>(es: &[Entry<K>], number: u32) -> Option<usize>
     let home = home_of(es.len(), number)?;
     if es[home].holds(number) {
         Some(home)
-    } else if es[home].strayed {
+    } else if es[home].is_strayed() {
         es.iter().position(|e| e.holds(number))
     } else {
         None
@@ -71,7 +71,7 @@ pub(crate) fn choose<K>(es: &[Entry<K>], number: u32) -> Option<usize>
     let home = home_of(es.len(), number)?;
     if es[home].holds(number) {
         Some(home)
-    } else if es[home].strayed {
+    } else if es[home].is_strayed() {
         scan_both(es, number)
     } else {
         find_free(es, number)
@@ -86,6 +86,6 @@ pub(crate) fn mark<K>(es: &mut [Entry<K>], slot: usize, number: u32)
     if let Some(home) = home_of(es.len(), number)
         && home != slot
     {
-        es[home].strayed = true;
+        es[home].stray();
     }
 }

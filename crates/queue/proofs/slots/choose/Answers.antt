@@ -12,13 +12,13 @@ pub returns-then-holds : goal.returns-then-holds
 returns-then-holds g c =
     chosen_found _ _ _ (c.in_ok-home.ensures.0, under_read _ _ _ c.index-es-home.result _ c.in_ok-home.ensures.0 c.index-es-home.is c.if-holds.ensures)
 
-pub returns-then-es-home : goal.returns-then-es-home
-returns-then-es-home g c = chosen_scanned c.args.es.now c.args.number _ c.scan_both.ensures
+pub returns-then-is_strayed : goal.returns-then-is_strayed
+returns-then-is_strayed g c = chosen_scanned c.args.es.now c.args.number _ c.scan_both.ensures
 
-pub returns-else-es-home : goal.returns-else-es-home
-returns-else-es-home g c =
+pub returns-else-is_strayed : goal.returns-else-is_strayed
+returns-else-is_strayed g c =
     let home = c.in_ok-home.ensures in
     chosen_free c.args.es.now c.args.number _
     (absent_home _ _ _ c.index-es-home-else-holds.result home.1 home.0
-    (under_read _ _ _ c.index-es-home.result _ home.0 c.index-es-home.is c.if-holds.ensures) c.if-es-home.false)
+    (under_read _ _ _ c.index-es-home.result _ home.0 c.index-es-home.is c.if-holds.ensures) c.index-es-home-else-holds.is c.if-is_strayed.ensures)
     c.find_free.ensures

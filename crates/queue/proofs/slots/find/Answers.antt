@@ -11,8 +11,8 @@ returns-in_err-home g c =
     let none : c.from_residual.result ≡ None = search rules in
     subst (λ (r : Option ℕ). Found c.args.es.now c.args.number r) (sym none) (λ homed s. absent_past _ _ s (omega (arith, c.in_err-home.ensures)))
 
-pub returns-then-es-home : goal.returns-then-es-home
-returns-then-es-home g c =
+pub returns-then-is_strayed : goal.returns-then-is_strayed
+returns-then-is_strayed g c =
     let n = c.args.number in
     let first = IsFirst-from_position _ _ c.position.result (λ e. under (item_of e) n ≡ true) (λ e. under (item_of e) n ≡ false) c.position.ensures.ran (YieldsList-from_slice c.args.es.now cc) (λ x q k. search (rules, tests)) (λ x q k. search (rules, tests)) in
     found_first _ _ _ first
