@@ -33,10 +33,7 @@ impl<K> Entry<K> {
     pub(crate) fn is_free(&self) -> bool
         ensures { result ≡ is_none (item_of self.now) }
     {
-        match self.slot {
-            Slot::Free { .. } => true,
-            Slot::Taken { .. } => false,
-        }
+        matches!(self.slot, Slot::Free { .. })
     }
 
     // Whether a key stands here under the number.
@@ -45,8 +42,8 @@ impl<K> Entry<K> {
         ensures { result ≡ under (item_of self.now) number }
     {
         match self.slot {
-            Slot::Free { .. } => false,
             Slot::Taken { number: n, .. } => n == number,
+            Slot::Free { .. } => false,
         }
     }
 
@@ -55,8 +52,7 @@ impl<K> Entry<K> {
         ensures { result ≡ strayed_of self.now }
     {
         match self.slot {
-            Slot::Free { strayed } => strayed,
-            Slot::Taken { strayed, .. } => strayed,
+            Slot::Free { strayed } | Slot::Taken { strayed, .. } => strayed,
         }
     }
 

@@ -1,8 +1,10 @@
 // The planner's key: a pair of numbers.
 ghost use Rattle.std.specs.Prelude.{◌≡◌, true};
 ghost use Rattle.queue.specs.Keys.{key_cmp, key_upto};
+ghost use Rattle.std.proofs.Common.{rules};
 
 use crate::entry::Entry;
+use crate::order::TotalOrder;
 
 #[derive(Clone, Copy, Debug, Default, PartialEq, Eq, PartialOrd, Ord)]
 pub struct Key {
@@ -19,6 +21,10 @@ impl Key {
     {
         self <= other
     }
+}
+
+impl TotalOrder for Key {
+    ghost antisymmetric = { Prim.search rules };
 }
 
 // The most bytes that the planner's entry may take.

@@ -3,6 +3,7 @@
 
 pub mod entry;
 pub mod key;
+pub mod order;
 pub mod queue;
 mod slots;
 mod tree;

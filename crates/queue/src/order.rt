@@ -1,0 +1,12 @@
+// The order of keys: std's, and two keys that compare as equal are the same.
+ghost use Rattle.std.specs.Prelude.{◌≡◌};
+ghost use Rattle.std.specs.declared.cmp.Ordering.TheVariants.{Equal};
+ghost use Rattle.std.proofs.lemmas.Map.Lookups.{exact_unsigned};
+
+pub trait TotalOrder: Ord + Copy {
+    ghost antisymmetric: { (a b : Self) → Self.cmp a b ≡ Equal → a ≡ b };
+}
+
+impl TotalOrder for u32 {
+    ghost antisymmetric = { exact_unsigned };
+}
