@@ -1,7 +1,9 @@
 // The planner's key: a pair of numbers.
-ghost use Rattle.std.specs.Prelude.{◌≡◌, true};
+ghost use Rattle.std.specs.Prelude.{◌≡◌, true, ℕ};
+ghost use Rattle.std.specs.Ordering.{nat_cmp};
+ghost use Rattle.std.proofs.Common.{ap};
+ghost use Rattle.std.proofs.lemmas.Map.Lookups.{exact_pairs, exact_unsigned};
 ghost use Rattle.queue.specs.Keys.{key_cmp, key_upto};
-ghost use Rattle.std.proofs.Common.{rules};
 
 use crate::entry::Entry;
 use crate::order::TotalOrder;
@@ -24,7 +26,7 @@ impl Key {
 }
 
 impl TotalOrder for Key {
-    ghost antisymmetric = { Prim.search rules };
+    ghost antisymmetric = { λ a b e. ap (λ (p : ℕ × ℕ). record { first = p.0; second = p.1 }) (exact_pairs nat_cmp nat_cmp exact_unsigned exact_unsigned (a.first, a.second) (b.first, b.second) e) };
 }
 
 // The most bytes that the planner's entry may take.
