@@ -1,15 +1,17 @@
 // What arcs offer the place that they leave.
-ghost use Rattle.std.specs.Prelude.{◌≡◌, map, MatchOption};
+ghost use Rattle.std.specs.Prelude.{◌≡◌, map, None, MatchOption};
 ghost use Rattle.ground.specs.Questions.{arcs_from};
 ghost use Rattle.method.specs.Calls.{cheapest};
 ghost use Rattle.method.specs.Values.{rhs, smallest};
 ghost use Rattle.search.specs.Tables.{offer_of, offered, Sized, told};
 
+use crate::aim::Aim;
 use crate::place::Place;
 use crate::task::Task;
 use ground::around::leaving;
 use ground::ground::Ground;
 use terms::amount::{FAR, capped_sum};
+use terms::slack::Slack;
 
 // A task and the records of its ground's places, with just one entry for each arc and each place.
 #[derive(Drop)]
@@ -70,4 +72,19 @@ impl<'t, G: Ground> Offers<'t, G> {
     {
         leaving(self.task.site, p).min_by_key(|arc| self.over(*arc))
     }
+}
+
+// The same over any tables and with no aim: None where they do not fit the ground.
+pub fn best_arc<G: Ground>(site: &G, costs: &[u32], places: &[Place], p: u32) -> Option<u32>
+    ensures found { Sized (G.Ground.meaning site.now) costs.now places.now → result ≡ cheapest (offered (G.Ground.meaning site.now) costs.now places.now) (arcs_from (G.Ground.meaning site.now) p) }
+    ensures unfit { (Sized (G.Ground.meaning site.now) costs.now places.now → ⊥) → result ≡ None }
+{
+    let slack = Slack::new(16).ok()?;
+    let aim = Aim {
+        here: p,
+        landing: p,
+        slack,
+    };
+    let task = Task { site, aim, costs };
+    Offers::new(&task, places)?.cheapest(p)
 }

@@ -24,9 +24,13 @@ pub record Wiped (n m : ℕ) (work work' : Working) : Type 0 where
   pub queue : (k : ℕ) → k < n → slice_index_or work'.queue.now k free_entry ≡ free_entry
   pub queue_beyond : (k : ℕ) → n ≤ k → slice_index_or work'.queue.now k free_entry ≡ slice_index_or work.queue.now k free_entry
 
--- both stand over the same columns
+-- both stand over the same columns, each as long as it was
 pub record SameNames (work work' : Working) : Type 0 where
   pub ends : work'.ends.ghost_name ≡ work.ends.ghost_name
   pub order : work'.order.ghost_name ≡ work.order.ghost_name
   pub sums : work'.sums.ghost_name ≡ work.sums.ghost_name
   pub queue : work'.queue.ghost_name ≡ work.queue.ghost_name
+  pub ends_len : length work'.ends.now ≡ length work.ends.now
+  pub order_len : length work'.order.now ≡ length work.order.now
+  pub sums_len : length work'.sums.now ≡ length work.sums.now
+  pub queue_len : length work'.queue.now ≡ length work.queue.now
