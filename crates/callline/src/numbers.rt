@@ -11,11 +11,12 @@ use text::number::number;
 pub fn count(text: &[u8]) -> Option<usize>
     ensures { result ≡ option_map length (numbers_in (fields_of text.now)) }
 {
-    if Fields::new(text).all(|field| number(field).is_ok()) {
-        Some(Fields::new(text).count())
-    } else {
-        None
+    let mut count = 0;
+    for field in Fields::new(text) {
+        number(field).ok()?;
+        count += 1;
     }
+    Some(count)
 }
 
 // The numbers that are typed, if there are as many as the list has places.

@@ -7,6 +7,7 @@ ghost use Rattle.report.specs.Reports.{arcs_text, counts_text, refusal_text, rep
 use sheet::places::places;
 use sheet::read::read;
 use std::alloc::{AllocError, Global};
+use std::fmt;
 use terms::arc::Arc;
 use terms::refusal::Refusal;
 
@@ -39,9 +40,9 @@ fn refuse(out: &mut String, refusal: Refusal) -> Result<(), AllocError>
     write!(out, "refused {number}: {refusal}\n")
 }
 
-// The report on the sheet that `bytes` begin with, read by way of `table`.
+// The report on the sheet that `bytes` begin with, read by way of `table`. The error is want of memory.
 #[tactic(auto, unfolding(crate::specs::Reports::report_of))]
-pub fn report(alloc: Global, bytes: &[u8], table: &mut [Arc]) -> Result<String, AllocError>
+pub fn report(alloc: Global, bytes: &[u8], table: &mut [Arc]) -> Result<String, fmt::Error>
     ensures { IfOk result (λ text. string_bytes text ≡ report_of bytes.now table.old) }
 {
     let mut out = String::new(alloc);

@@ -18,6 +18,7 @@ use Rattle.sheet.specs.Sheets.{row_of, rows_of, arcs_of, arcs_under, in_line, an
 use Rattle.sheet.specs.Typed.{line_of, typed_arc, typed_sheet, Typable, Stops}
 use Rattle.sheet.proofs.Extents.{span_more, sheet_span}
 use Rattle.sheet.proofs.Whole.{arcs_count}
+use Rattle.sheet.proofs.Filling.{filled_whole}
 
 -- the bytes of a line of three numbers, without byte 10
 three : ℕ → ℕ → ℕ → List ℕ
@@ -150,4 +151,4 @@ module _ (order : Columns) (arcs : List Arc) (after : List ℕ) (s : Stops after
   typed_count = omega (arith, ap length typed_lines, length-map arcs (bare order))
 
 -- what `read` rests on
-pub ruleset reading = (nat_tests, arcs_count, sheet_span, typed_arcs, typed_count, typed_end)
+pub ruleset reading = (nat_tests, filled_whole, arcs_count, sheet_span, typed_arcs, typed_count, typed_end)

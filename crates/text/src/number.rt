@@ -1,5 +1,5 @@
 // The number that a field writes.
-ghost use Rattle.std.specs.Prelude.{◌≡◌, ◌<◌, ◌≤◌, true, length};
+ghost use Rattle.std.specs.Prelude.{◌≡◌, ◌≤◌, true, length};
 ghost use Rattle.std.specs.Char.{is_ascii_digit};
 ghost use Rattle.std.specs.List.{list_all};
 ghost use Rattle.std.specs.Option.{SomeIff};
@@ -7,7 +7,6 @@ ghost use Rattle.std.specs.Str.Parse.{digits_value};
 ghost use Rattle.terms.specs.Amounts.{far};
 ghost use Rattle.text.specs.Numbers.{number_of};
 
-use std::str;
 use terms::fault::NumberFault;
 
 fn all_digits(field: &[u8]) -> bool
@@ -16,14 +15,17 @@ fn all_digits(field: &[u8]) -> bool
     field.iter().all(u8::is_ascii_digit)
 }
 
-// What digits write, if it is at most FAR.
-#[tactic(auto, using(crate::proofs::Digits::digits_text, crate::proofs::Digits::read))]
+// What at most ten digits write, if it is at most FAR. Not by `parse`, which tests once more what is known of the digits.
 fn value(digits: &[u8]) -> Option<u32>
-    requires { list_all is_ascii_digit digits.now ≡ true }
-    ensures { SomeIff result ((0 < length digits.now) × (digits_value 10 digits.now ≤ far)) (digits_value 10 digits.now) }
+    requires digits { list_all is_ascii_digit digits.now ≡ true }
+    requires few { length digits.now ≤ 10 }
+    ensures { SomeIff result (digits_value 10 digits.now ≤ far) (digits_value 10 digits.now) }
 {
-    let text = str::from_utf8(digits).unwrap();
-    text.parse().ok()
+    let mut value: u64 = 0;
+    for digit in digits {
+        value = value * 10 + u64::from(*digit - b'0');
+    }
+    u32::try_from(value).ok()
 }
 
 // The number of a field of one to ten digits that is at most FAR; else the first fault that fits.
