@@ -1,4 +1,4 @@
 pub mod Fronts
-mod Groups
+pub mod Groups
 mod Sorting
 pub mod Listed

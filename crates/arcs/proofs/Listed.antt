@@ -9,7 +9,7 @@ use Rattle.arcs.specs.Index.{start_in, start_of, Indexed, Listing}
 use Rattle.arcs.specs.Lists.{Indexes}
 use Rattle.arcs.specs.Tables.{end_at}
 use Rattle.ground.specs.declared.end.End.{End}
-use Rattle.arcs.specs.declared.index.Index.{Index}
+use Rattle.arcs.specs.declared.lists.Index.{Index}
 use Rattle.arcs.specs.declared.net.Net.{Net}
 use Rattle.arcs.proofs.Groups.{group_in}
 

@@ -3,7 +3,7 @@ use Rattle.std.specs.Prelude.{◌≡◌, ℕ, ◌≤◌, List, [], length, nat_l
 use Rattle.arcs.specs.Index.{start_in}
 use Rattle.arcs.specs.Nets.{arcs_by}
 use Rattle.ground.specs.declared.end.End.{End}
-use Rattle.arcs.specs.declared.index.Index.{Index}
+use Rattle.arcs.specs.declared.lists.Index.{Index}
 use Rattle.arcs.specs.declared.net.Net.{Net}
 
 -- where the list of a place starts in the order

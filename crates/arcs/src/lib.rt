@@ -4,5 +4,6 @@
 pub mod end;
 pub mod index;
 pub mod lawful;
+pub mod lists;
 pub mod net;
 mod sort;

@@ -5,7 +5,7 @@ ghost use Rattle.arcs.specs.Tables.{AllLawful};
 ghost use Rattle.ground.specs.declared.end.End.TheVariants.{Tail, Head};
 ghost use Rattle.roads.specs.Heights.{LowHeights, Steps};
 
-use arcs::index::Index;
+use arcs::lists::Index;
 use arcs::net::Net;
 
 #[derive(Drop)]

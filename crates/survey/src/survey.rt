@@ -9,7 +9,7 @@ ghost use Rattle.survey.specs.Workings.{SameNames, Wiped};
 use crate::measure::measure;
 use crate::task::Task;
 use crate::working::Working;
-use arcs::index::Index;
+use arcs::lists::Index;
 use arcs::net::Net;
 use ground::end::End;
 use terms::arc::Arc;

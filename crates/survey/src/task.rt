@@ -3,7 +3,7 @@ ghost use Rattle.std.specs.Prelude.{◌<◌, ◌≤◌};
 ghost use Rattle.arcs.specs.Lists.{Indexes};
 ghost use Rattle.ground.specs.declared.end.End.TheVariants.{Tail};
 
-use arcs::index::Index;
+use arcs::lists::Index;
 use arcs::net::Net;
 
 #[derive(Clone, Copy)]

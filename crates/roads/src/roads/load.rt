@@ -5,7 +5,7 @@ ghost use Rattle.roads.specs.Tables.{tables_of, SameNames};
 
 use crate::check::{first_steep, within};
 use crate::roads::Roads;
-use arcs::index::Index;
+use arcs::lists::Index;
 use arcs::net::Net;
 use ground::end::End;
 use terms::arc::Arc;
