@@ -1,5 +1,5 @@
 // What has to hold of a net and its heights before roads take them.
-ghost use Rattle.std.specs.Prelude.{◌+◌, ◌<◌, ◌≤◌, ◌↔◌, length, IsTrue, MatchOption};
+ghost use Rattle.std.specs.Prelude.{◌≡◌, ◌+◌, ◌<◌, ◌≤◌, ◌↔◌, ◌++◌, length, take, drop, IsTrue, MatchOption};
 ghost use Rattle.roads.specs.Heights.{height_of, Steps};
 ghost use Rattle.roads.specs.Loads.{LowestSteep, Within};
 
@@ -33,4 +33,13 @@ pub(crate) fn first_steep(net: &Net, heights: &[u32]) -> Option<usize>
     ensures { MatchOption result (Steps net.now.arcs.now heights.now) (LowestSteep net.now.arcs.now heights.now) }
 {
     net.arcs.iter().position(|arc| is_steep(heights, *arc))
+}
+
+// Copies the first heights. In a function of its own the compiler knows the two tables apart, and asks for no `memmove`.
+pub(crate) fn copy(places: usize, from: &[u32], to: &mut [u32])
+    requires from { places ≤ length from.now }
+    requires to { places ≤ length to.old }
+    ensures { to.new ≡ take places from.now ++ drop places to.old }
+{
+    to[..places].copy_from_slice(&from[..places]);
 }

@@ -1,6 +1,7 @@
 // Roads: a net, a height for each place, and an index of the arcs by either end.
 ghost use Rattle.std.specs.Prelude.{◌≤◌, length};
 ghost use Rattle.arcs.specs.Lists.{HasRoom, Indexes};
+ghost use Rattle.arcs.specs.Nets.{IndexedBy};
 ghost use Rattle.arcs.specs.Tables.{AllLawful};
 ghost use Rattle.ground.specs.declared.end.End.TheVariants.{Tail, Head};
 ghost use Rattle.roads.specs.Heights.{LowHeights, Steps};
@@ -24,6 +25,8 @@ pub struct Roads<'a, 't> {
     ghost entering_room: { HasRoom entering net.places (length net.arcs.now) },
     ghost leaving_right: { Indexes leaving Tail net },
     ghost entering_right: { Indexes entering Head net },
+    ghost leaving_tables: { IndexedBy Tail net leaving.ends.now leaving.order.now },
+    ghost entering_tables: { IndexedBy Head net entering.ends.now entering.order.now },
 }
 
 pub mod answers;

@@ -3,7 +3,7 @@ ghost use Rattle.std.specs.Prelude.{◌≡◌, ◌↔◌, [], IsTrue, IfOk, OnOk
 ghost use Rattle.roads.specs.Loads.{Accepted, Filled, Fits as FitsIn, Judged};
 ghost use Rattle.roads.specs.Tables.{tables_of, SameNames};
 
-use crate::check::{first_steep, within};
+use crate::check::{copy, first_steep, within};
 use crate::roads::Roads;
 use arcs::lists::Index;
 use arcs::net::Net;
@@ -71,8 +71,7 @@ impl<'a, 't> Roads<'a, 't> {
         ensures same { SameNames self.old self.new }
         ensures tables { Filled net.entry.places net.entry.arcs.now heights.now (tables_of self.old) (tables_of self.new) }
     {
-        let n = net.places;
-        self.heights[..n].copy_from_slice(&heights[..n]);
+        copy(net.places, heights, self.heights);
         self.leaving.fill(End::Tail, &net);
         self.entering.fill(End::Head, &net);
         self.net = net;
