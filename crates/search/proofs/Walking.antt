@@ -77,3 +77,7 @@ pub smallest_offer : (m : Meaning) (costs : List ℕ) (places : List Place) (p :
 smallest_offer m costs places p =
     ap (λ xs. unwrap_or (reduce min xs) far) (map_there (offer_of m costs places) (offered m costs places) (arcs_from m p) (λ k x e. cond-true (ltb x m.arcs) (offered m costs places x) far (lt-ltb x m.arcs (arcs_at-at m.tail m.arcs p k x e).0)))
     ∙ least_smallest (offered m costs places) (λ x. omega arith) (arcs_from m p)
+
+-- the same of the smallest itself
+pub smallest_offers : (m : Meaning) (costs : List ℕ) (places : List Place) (p : ℕ) → smallest (map (offer_of m costs places) (arcs_from m p)) ≡ smallest (map (offered m costs places) (arcs_from m p))
+smallest_offers m costs places p = ap smallest (map_there (offer_of m costs places) (offered m costs places) (arcs_from m p) (λ k x e. cond-true (ltb x m.arcs) (offered m costs places x) far (lt-ltb x m.arcs (arcs_at-at m.tail m.arcs p k x e).0)))

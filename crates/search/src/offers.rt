@@ -49,10 +49,12 @@ impl<'t, G: Ground> Offers<'t, G> {
     fn smallest(&self, p: u32) -> u32
         ensures { result ≡ smallest (map (offered (G.Ground.meaning self.now.task.now.site.now) self.now.task.now.costs.now self.now.places.now) (arcs_from (G.Ground.meaning self.now.task.now.site.now) p)) }
     {
-        leaving(self.task.site, p)
-            .map(|arc| self.over(arc))
-            .min()
-            .unwrap_or(FAR)
+        // Not by `map` and `min`, by which a Set took half as long again.
+        let mut least = FAR;
+        for arc in leaving(self.task.site, p) {
+            least = least.min(self.over(arc));
+        }
+        least
     }
 
     // The rhs of a place, from the costs and values as they stand.
