@@ -6,7 +6,7 @@ use Rattle.std.proofs.lemmas.List.{get_or-map, get_or_past, length-map, map-set,
 use Rattle.std.proofs.lemmas.Bool.{cases_Bool, cases_eq, cases_lt, both_ways, false≢true}
 use Rattle.queue.specs.declared.entry.Entry.{Entry}
 use Rattle.queue.specs.Content.{free_entry, item_of, items, held, strayed_of}
-use Rattle.queue.specs.Sound.{under, free_or, Absent, Homed, Found, Room, Scanned, Chosen, Marked}
+use Rattle.queue.specs.Sound.{under, Absent, Homed, Found, Room, Scanned, Chosen, Marked}
 use Rattle.queue.specs.Tree.{strays}
 use Rattle.queue.proofs.Contests.{item_read, length_items}
 use Rattle.queue.proofs.Contents.{under_some, other_under, none_under, count_full}
@@ -77,14 +77,14 @@ module _ {K : Type 0} (es : List (Entry K)) where
   unfolding Freest
   freest_none s l = absurd (omega arith)
 
-  freest_step : (i : ℕ) (x : Option (ℕ × K)) (f : Option ℕ) → get_or (items es) i None ≡ x → Freest i f → Freest (i + 1) (free_or x i f)
+  pub freest_here : (i : ℕ) → get_or (items es) i None ≡ None → Freest (i + 1) (Some i)
   unfolding Freest
-  freest_step i None f e h = (omega arith, e)
-  freest_step i (Some x) (Some s) e h = (omega (arith, h.0), h.1)
-  freest_step i (Some x) None e h = below_more _ _ h (λ z. let q : Some x ≡ None = sym e ∙ z in cc)
+  freest_here i e = (omega arith, e)
 
-  pub freest_more : (i : ℕ) (e : Entry K) (f r : Option ℕ) → i < length es → e ≡ get_or es i e → Freest i f → r ≡ free_or (item_of e) i f → Freest (i + 1) r
-  freest_more i e f r l at h q = let P : Option ℕ → Type 0 = λ z. Freest (i + 1) z in subst P (sym q) (freest_step i (item_of e) f (item_read es i e l at) h)
+  pub freest_past : (i : ℕ) (f : Option ℕ) → is_none (get_or (items es) i None) ≡ false → Freest i f → Freest (i + 1) f
+  unfolding Freest
+  freest_past i (Some s) e h = (omega (arith, h.0), h.1)
+  freest_past i None e h = below_more _ _ h (λ z. false≢true (sym e ∙ ap is_none z))
 
   pub scanned_all : (n i : ℕ) (f : Option ℕ) → i ≤ length es → length es ≤ i → Freest i f → ((s : ℕ) → s < i → under (get_or (items es) s None) n ≡ false) → Scanned es n f
   unfolding Freest

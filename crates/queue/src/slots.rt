@@ -1,7 +1,6 @@
 // Where a number stands in the table, and where there is room for one.
 ghost use Rattle.std.specs.Prelude.{◌≡◌, ℕ, ◌%◌, ◌<◌, length, MatchOption};
-ghost use Rattle.queue.specs.Content.{item_of};
-ghost use Rattle.queue.specs.Sound.{free_or, Chosen, Found, Marked, Room, Scanned};
+ghost use Rattle.queue.specs.Sound.{Chosen, Found, Marked, Room, Scanned};
 
 use crate::entry::Entry;
 
@@ -43,23 +42,17 @@ fn find_free<K>(es: &[Entry<K>], number: u32) -> Option<usize>
     }
 }
 
-// The slot that is free, where this one is, else the one that was found before.
-fn free_or<K>(e: &Entry<K>, slot: usize, earlier: Option<usize>) -> Option<usize>
-    ensures { result ≡ free_or (item_of e.now) slot earlier }
-{
-    if e.is_free() { Some(slot) } else { earlier }
-}
-
 // Looks at every slot for the number, and else for a free one.
 fn scan_both<K>(es: &[Entry<K>], number: u32) -> Option<usize>
     ensures { Scanned es.now number result }
 {
     let mut free = None;
     for (slot, e) in es.iter().enumerate() {
-        if e.holds(number) {
+        if e.is_free() {
+            free = Some(slot);
+        } else if e.holds(number) {
             return Some(slot);
         }
-        free = free_or(e, slot, free);
     }
     free
 }

@@ -35,7 +35,8 @@ pub(crate) fn first_steep(net: &Net, heights: &[u32]) -> Option<usize>
     net.arcs.iter().position(|arc| is_steep(heights, *arc))
 }
 
-// Copies the first heights. In a function of its own the compiler knows the two tables apart, and asks for no `memmove`.
+// Copies the first heights. Out of line, where the compiler knows the two tables apart and asks for no `memmove`.
+#[inline(never)]
 pub(crate) fn copy(places: usize, from: &[u32], to: &mut [u32])
     requires from { places ≤ length from.now }
     requires to { places ≤ length to.old }
