@@ -1,5 +1,6 @@
 // What has to hold of a net and its heights before roads take them.
-ghost use Rattle.std.specs.Prelude.{◌≡◌, ◌+◌, ◌<◌, ◌≤◌, ◌↔◌, ◌++◌, length, take, drop, IsTrue, MatchOption};
+ghost use Rattle.std.specs.Prelude.{◌≡◌, ℕ, ◌+◌, ◌<◌, ◌≤◌, ◌↔◌, length, slice_index, IsTrue, MatchOption};
+ghost use Rattle.arcs.specs.Index.{SameFrom};
 ghost use Rattle.roads.specs.Heights.{height_of, Steps};
 ghost use Rattle.roads.specs.Loads.{LowestSteep, Within};
 
@@ -35,12 +36,14 @@ pub(crate) fn first_steep(net: &Net, heights: &[u32]) -> Option<usize>
     net.arcs.iter().position(|arc| is_steep(heights, *arc))
 }
 
-// Copies the first heights. Out of line, where the compiler knows the two tables apart and asks for no `memmove`.
-#[inline(never)]
+// Copies the first heights. Entry by entry, since `copy_from_slice` asks for `memmove` here, which the archives for C did without.
 pub(crate) fn copy(places: usize, from: &[u32], to: &mut [u32])
     requires from { places ≤ length from.now }
     requires to { places ≤ length to.old }
-    ensures { to.new ≡ take places from.now ++ drop places to.old }
+    ensures copied { (p : ℕ) → p < places → slice_index to.new p ≡ slice_index from.now p }
+    ensures beyond { SameFrom places to.old to.new }
 {
-    to[..places].copy_from_slice(&from[..places]);
+    for p in 0..places {
+        to[p] = from[p];
+    }
 }
