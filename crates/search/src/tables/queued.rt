@@ -23,7 +23,8 @@ impl<'t, G: Ground> Tables<'t, G> {
         Some(place.key(aim.slack, estimate))
     }
 
-    // Writes the record of a place, and keeps its entry in step.
+    // Writes the record of a place, and keeps its entry in step. Inlined, since a search that starts afresh writes every place.
+    #[inline(always)]
     pub(crate) fn store(&mut self, p: u32, place: Place)
         requires { p < (G.Ground.meaning self.old.task.now.site.now).places }
         ensures written { self.new.places.now ≡ slice_set self.old.places.now p place }
