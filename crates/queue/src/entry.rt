@@ -42,8 +42,8 @@ impl<K> Entry<K> {
         ensures { result ≡ under (item_of self.now) number }
     {
         match self.slot {
-            Slot::Taken { number: n, .. } => n == number,
             Slot::Free { .. } => false,
+            Slot::Taken { number: n, .. } => n == number,
         }
     }
 
@@ -82,10 +82,10 @@ impl<K: Copy> Entry<K> {
     pub(crate) fn item(&self) -> Option<(u32, K)>
         ensures { result ≡ item_of self.now }
     {
-        match self.slot {
-            Slot::Free { .. } => None,
-            Slot::Taken { number, key, .. } => Some((number, key)),
-        }
+        let Slot::Taken { number, key, .. } = self.slot else {
+            return None;
+        };
+        Some((number, key))
     }
 
     // The same entry with something else standing here.

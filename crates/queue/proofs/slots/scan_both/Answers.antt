@@ -1,4 +1,4 @@
-use Rattle.std.proofs.Common.{◌≡◌, ℕ, ◌+◌, Option, None, Some, false, sym, subst, ◌∙◌, inl, arith, below_more, get_or}
+use Rattle.std.proofs.Common.{◌≡◌, ℕ, ◌+◌, Option, None, sym, subst, ◌∙◌, arith, below_more, get_or}
 use Rattle.queue.specs.Content.{items}
 use Rattle.queue.proofs.Contents.{none_under}
 use Rattle.queue.proofs.Finds.{Freest, free_none, free_read, under_read, freest_none, freest_here, freest_past, scanned_all}
