@@ -36,7 +36,7 @@ impl<K> Entry<K> {
         matches!(self.slot, Slot::Free { .. })
     }
 
-    // Whether a key stands here under the number.
+    // Whether a key stands here under the number. A free slot is told first, as by `is_free`, so that a scan which asks both looks once.
     #[tactic(auto, unfolding(crate::specs::Sound::under))]
     pub(crate) fn holds(&self, number: u32) -> bool
         ensures { result ≡ under (item_of self.now) number }
@@ -82,10 +82,10 @@ impl<K: Copy> Entry<K> {
     pub(crate) fn item(&self) -> Option<(u32, K)>
         ensures { result ≡ item_of self.now }
     {
-        let Slot::Taken { number, key, .. } = self.slot else {
-            return None;
-        };
-        Some((number, key))
+        match self.slot {
+            Slot::Taken { number, key, .. } => Some((number, key)),
+            Slot::Free { .. } => None,
+        }
     }
 
     // The same entry with something else standing here.

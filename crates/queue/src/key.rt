@@ -28,9 +28,8 @@ impl Key {
 impl TotalOrder for Key {
     ghost antisymmetric = { λ a b e. ap (λ (p : ℕ × ℕ). record { first = p.0; second = p.1 }) (exact_pairs nat_cmp nat_cmp exact_unsigned exact_unsigned (a.first, a.second) (b.first, b.second) e) };
 
-    // By the key's own function of this name.
     fn at_most(self, other: Key) -> bool {
-        Key::at_most(self, other)
+        self <= other
     }
 }
 
