@@ -27,7 +27,8 @@ returns-in_err-column-clause-place c =
 pub overflow_mul-result : goal.overflow_mul-result
 overflow_mul-result c =
     let few : c.in_ok-row.row ≤ 128 = omega (arith, c.in_ok-row.ensures.within) in
-    record { fits = omega (arith, mul-le-mul few c.args.self.grid.few_columns) }
+    -- by either side: of a place counted by the wrong one it is the place that is wrong, and not its size
+    record { fits = omega (arith, mul-le-mul few c.args.self.grid.few_columns, mul-le-mul few c.args.self.grid.few_rows) }
 
 pub invariant_of-result : goal.invariant_of-result
 invariant_of-result c =
