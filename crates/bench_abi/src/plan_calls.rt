@@ -221,7 +221,7 @@ fn leave_keys(entries: &mut [Entry<Key>], anything: u32) {
         first: 0,
         second: anything,
     };
-    let mut queue = Queue::empty(entries);
+    let mut queue = Queue::empty_exact(entries);
     for number in 1..9 {
         let _ = queue.put(anything.wrapping_mul(number), key);
     }

@@ -1,6 +1,7 @@
 // Calls of the queue, one after another.
 ghost use Rattle.std.specs.Prelude.{⊤};
 
+use queue::contest::Exact;
 use queue::entry::Entry;
 use queue::key::Key;
 use queue::queue::Queue;
@@ -52,7 +53,7 @@ impl From<Option<(u32, Key)>> for Answer {
     }
 }
 
-fn carry_out(q: &mut Queue<Key>, s: &Step) -> Answer {
+fn carry_out(q: &mut Queue<Key, Exact>, s: &Step) -> Answer {
     let key = Key {
         first: s.first,
         second: s.second,
@@ -77,7 +78,7 @@ const MOST: usize = 16_384;
 pub extern "C" fn queue_run(size: usize, steps: &[Step], answers: &mut [Answer]) {
     let mut table = [Entry::free(); MOST];
     let entries = &mut table[0..size.min(MOST)];
-    let mut q = Queue::empty(entries);
+    let mut q = Queue::empty_exact(entries);
     for (s, a) in steps.iter().zip(answers.iter_mut()) {
         *a = carry_out(&mut q, s);
     }
@@ -88,7 +89,7 @@ pub extern "C" fn queue_run(size: usize, steps: &[Step], answers: &mut [Answer])
 pub extern "C" fn queue_sum(size: usize, steps: &[Step]) -> u64 {
     let mut table = [Entry::free(); MOST];
     let entries = &mut table[0..size.min(MOST)];
-    let mut q = Queue::empty(entries);
+    let mut q = Queue::empty_exact(entries);
     let mut sum: u64 = 0;
     for s in steps {
         let a = carry_out(&mut q, s);

@@ -20,7 +20,7 @@ pub(crate) fn none_waits(entries: &mut [Entry<Key>])
 pub(crate) fn waits(entries: &mut [Entry<Key>], p: u32, key: Option<Key>)
     ensures { Sound key_cmp entries.old → Low entries.old → p < length entries.old → Kept p key entries.old entries.new }
 {
-    let mut queue = Queue::resume(entries);
+    let mut queue = Queue::resume_exact(entries);
     match key {
         Some(key) => {
             let _ = queue.put(p, key);

@@ -6,6 +6,7 @@ ghost use Rattle.survey.specs.Sums.{Surveyed};
 ghost use Rattle.terms.specs.Amounts.{far};
 
 use crate::task::Task;
+use queue::contest::Exact;
 use queue::entry::Entry;
 use queue::queue::Queue;
 use terms::amount::{FAR, capped_sum};
@@ -13,7 +14,7 @@ use terms::amount::{FAR, capped_sum};
 #[derive(Drop)]
 pub(crate) struct Labels<'t> {
     sums: &'t mut [u32],
-    queue: Queue<'t, u32>,
+    queue: Queue<'t, u32, Exact>,
     ghost slots: { length queue.entries.now ≡ length sums.now },
 }
 
@@ -33,7 +34,7 @@ impl<'t> Labels<'t> {
     {
         sums.fill(FAR);
         sums[task.from as usize] = 0;
-        let mut queue = Queue::empty(entries);
+        let mut queue = Queue::empty_exact(entries);
         let _ = queue.put(task.from, 0);
         Labels { sums, queue }
     }
