@@ -1,7 +1,7 @@
 // Calls of the queue, one after another.
 ghost use Rattle.std.specs.Prelude.{⊤};
 
-use queue::contest::Exact;
+use queue::compare::Exact;
 use queue::entry::Entry;
 use queue::key::Key;
 use queue::queue::Queue;

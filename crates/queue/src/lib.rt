@@ -1,12 +1,12 @@
-// A priority queue over a lent slice of entries, for any kind of key that has a total order.
+// A priority queue over a lent slice of entries, for any keys that are `Ord` and `Copy`.
 #![tactic(auto)]
 
-pub mod contest;
+pub mod compare;
 pub mod entry;
+#[cfg(test)]
+mod examples;
 pub mod key;
 pub mod order;
-#[cfg(test)]
-mod parcels;
 pub mod queue;
 mod slots;
 mod tree;

@@ -5,7 +5,7 @@ ghost use Rattle.std.specs.declared.cmp.Ordering.TheVariants.{Equal};
 ghost use Rattle.std.proofs.lemmas.Map.Lookups.{exact_unsigned};
 
 pub trait TotalOrder: Ord + Copy {
-    // Whether this key comes before the other one or equals it: what a contest in the queue's tree asks.
+    // Whether this key comes before the other one or equals it: what a contest in an exact queue's tree asks.
     fn at_most(self, other: Self) -> bool
         ensures { result ≡ is_le (Self.cmp self other) };
 

@@ -6,7 +6,7 @@ ghost use Rattle.survey.specs.Sums.{Surveyed};
 ghost use Rattle.terms.specs.Amounts.{far};
 
 use crate::task::Task;
-use queue::contest::Exact;
+use queue::compare::Exact;
 use queue::entry::Entry;
 use queue::queue::Queue;
 use terms::amount::{FAR, capped_sum};

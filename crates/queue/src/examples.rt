@@ -13,7 +13,7 @@ struct Parcel {
     owner: u32,
 }
 
-fn of(weight: u32, owner: u32) -> Parcel {
+fn weighing(weight: u32, owner: u32) -> Parcel {
     Parcel { weight, owner }
 }
 
@@ -26,31 +26,34 @@ fn item_is(rt: &impl Abort, item: Option<(u32, Parcel)>, number: u32, weight: u3
 fn equal_parcels_go_by_number(rt: HostRuntime) -> Result<(), Fail> {
     let mut table = [Entry::free(); 3];
     let mut queue = Queue::empty(&mut table);
-    queue.put(9, of(5, 70))?;
-    queue.put(4, of(5, 71))?;
-    queue.put(7, of(4, 72))?;
-    assert!(rt; queue.put(2, of(1, 73)).is_err());
+    queue.put(9, weighing(5, 70))?;
+    queue.put(4, weighing(5, 71))?;
+    queue.put(7, weighing(4, 72))?;
+    assert!(rt; queue.put(2, weighing(1, 73)).is_err());
     item_is(&rt, queue.smallest(), 7, 4, 72);
     item_is(&rt, queue.take_smallest(), 7, 4, 72);
     item_is(&rt, queue.smallest(), 4, 5, 71);
     let mut queue = Queue::resume(&mut table);
     let withdrawn = queue.withdraw(4).map(|key| key.owner);
     assert_eq!(rt; withdrawn, Some(71));
-    let mut list = [(0, of(0, 0)); 2];
+    let mut list = [(0, weighing(0, 0)); 2];
     assert_eq!(rt; queue.drain(&mut list), 1);
     item_is(&rt, list.first().copied(), 9, 5, 70);
     Ok(())
 }
 
 #[test]
-fn exact_keys(rt: HostRuntime) -> Result<(), Fail> {
+fn each_resumes_the_other(rt: HostRuntime) -> Result<(), Fail> {
     let mut table = [Entry::free(); 3];
     let mut queue = Queue::empty_exact(&mut table);
     queue.put(2, 6u32)?;
     queue.put(1, 6)?;
+    let mut queue = Queue::resume(&mut table);
+    assert_eq!(rt; queue.take_smallest(), Some((1, 6)));
     queue.put(0, 8)?;
-    let mut list = [(9, 9); 4];
-    assert_eq!(rt; queue.drain(&mut list), 3);
-    assert_eq!(rt; list, [(1, 6), (2, 6), (0, 8), (9, 9)]);
+    let mut queue = Queue::resume_exact(&mut table);
+    let mut list = [(9, 9); 3];
+    assert_eq!(rt; queue.drain(&mut list), 2);
+    assert_eq!(rt; list, [(2, 6), (0, 8), (9, 9)]);
     Ok(())
 }
